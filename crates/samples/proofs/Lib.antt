@@ -1,0 +1,9 @@
+pub mod Rolled
+pub mod Fewest
+pub mod Steps
+pub mod Appends
+pub mod CutBack
+pub mod Changes
+pub mod Room
+pub mod Cuts
+pub mod Wants
