@@ -1,6 +1,6 @@
 -- What the functions on whole captures answer. Assumes nothing: these are definitions.
 use mathlib.Core.Path.{_≡_}
-use mathlib.Core.List.{List, [], _∷_}
+use mathlib.Core.List.{List}
 use Prim.Native.Nat.{ℕ, _≤_}
 use lib.ListN.{length}
 use Rattle.std.specs.declared.alloc.Global.{Global}
@@ -13,7 +13,7 @@ use Rattle.samples.specs.Answer.{number-of, place-of}
 use Rattle.samples.specs.Runs.{samples-of, rolled, Minimal}
 use Rattle.formats.specs.declared.failure.Failure.{Failure}
 use Rattle.formats.specs.declared.failure.Failure.the-variants.{Memory, Refused}
-use Rattle.formats.specs.Text.{lines-of, text-of, run-in, runs-in}
+use Rattle.formats.specs.Text.{text-of, runs-in}
 
 abbrev pub samples-given : Result (List Run) (ℕ × ℕ) → Result (List ℕ) (ℕ × ℕ)
 samples-given (Ok rs) = Ok (samples-of rs)
@@ -23,14 +23,9 @@ samples-given (Err e) = Err e
 abbrev pub samples-in : List ℕ → Result (List ℕ) (ℕ × ℕ)
 samples-in bs = samples-given (runs-in bs)
 
--- the first line is that of a run
-abbrev pub Begins : List (List ℕ) → Type 0
-Begins [] = ⊥
-Begins (l ∷ ls) = (r : Run) × (run-in 0 0 l ≡ Ok r)
-
--- a failure is the text's refusal; or want of memory, which comes only after a run was read
+-- a failure is the text's refusal; or want of memory, only where no line is at fault and there are runs
 abbrev pub Fails : Failure → List ℕ → Type 0
-Fails Memory bs = Begins (lines-of bs)
+Fails Memory bs = (rs : List Run) × (runs-in bs ≡ Ok rs) × (1 ≤ length rs)
 Fails (Refused f) bs = samples-in bs ≡ Err (number-of f, place-of f)
 
 -- a text of runs, which is read back as those runs; or want of memory, where there are some

@@ -2,14 +2,19 @@
 use mathlib.Core.Path.{_≡_}
 use mathlib.Core.List.{List, [], _∷_, _++_}
 use mathlib.Core.Bool.{cond}
-use Prim.Native.Nat.{ℕ, _+_, _%_, _<_, min}
+use Prim.Native.Nat.{ℕ, _+_, _%_, _≤_, _<_, min}
 use lib.Dec.{ltb}
 use lib.ListN.{length}
+use Rattle.std.specs.declared.option.Option.{Option}
+use Rattle.std.specs.declared.option.Option.the-variants.{None, Some}
 use Rattle.std.specs.declared.result.Result.{Result}
+use Rattle.std.specs.declared.result.Result.the-variants.{Ok, Err}
 use Rattle.std.specs.Reads.{value, Digits}
 use Rattle.std.specs.Text.{In}
+use Rattle.samples.specs.declared.answer.Refusal.{Refusal}
 use Rattle.samples.specs.declared.run.Run.{Run}
-use Rattle.formats.specs.Text.{lines-of, run-in}
+use Rattle.samples.specs.Answer.{number-of, place-of}
+use Rattle.formats.specs.Text.{lines-of, run-in, onto, reading-from}
 
 -- a text that begins with no digit
 abbrev pub NoDigit : List ℕ → Type 0
@@ -51,3 +56,15 @@ pub record FirstLine (n p : ℕ) (text : List ℕ) (v : Result Run (ℕ × ℕ))
 -- the last digit of the front of a number; a front of 0 has none
 abbrev pub last-digit : ℕ → List ℕ
 last-digit n = cond (ltb 0 n) ((48 + n % 10) ∷ []) []
+
+-- the next run of a text of which n lines and p samples were read and `rest` is left, and what is left then; nothing at its end; or the refusal
+abbrev pub Next : Result (Option Run) Refusal → (n p : ℕ) → (rest : List ℕ) → (n′ p′ : ℕ) → (rest′ : List ℕ) → Type 0
+Next (Ok (Some r)) n p rest n′ p′ rest′ =
+    (reading-from n p (lines-of rest) ≡ onto (r ∷ []) (reading-from n′ p′ (lines-of rest′))) × (n′ + length rest′ ≤ n + length rest) × (length rest′ < length rest)
+Next (Ok None) n p rest n′ p′ rest′ = reading-from n p (lines-of rest) ≡ Ok []
+Next (Err f) n p rest n′ p′ rest′ = reading-from n p (lines-of rest) ≡ Err (number-of f, place-of f)
+
+-- what is left has no line at fault, or the refusal of the first
+abbrev pub Checked : Result (Unit {0}) Refusal → (n p : ℕ) → (rest : List ℕ) → Type 0
+Checked (Ok u) n p rest = (rs : List Run) × (reading-from n p (lines-of rest) ≡ Ok rs)
+Checked (Err f) n p rest = reading-from n p (lines-of rest) ≡ Err (number-of f, place-of f)

@@ -5,12 +5,12 @@ ghost use Rattle.std.specs.Results.{Cases};
 ghost use Rattle.std.specs.declared.result.Result.the-variants.{Ok as Good};
 ghost use Rattle.samples.specs.Runs.{samples-of};
 ghost use Rattle.formats.specs.Capture.{samples-in, Fails, Writes, Compacts};
+use crate::cursor::Lines;
 use crate::failure::Failure;
 use crate::failure::FailureFromAlloc;
 use crate::failure::FailureFromRefusal;
 use crate::line::LINE_BYTES;
 use crate::line::put_line;
-use crate::line::read_line;
 use samples::Runs;
 use std::alloc::AllocError;
 use std::alloc::Global;
@@ -19,16 +19,14 @@ use std::alloc::Global;
 pub fn read_capture(heap: Global, text: &[u8]) -> Result<Runs, Failure>
     ensures { λ r. ⌜ Cases r (λ runs. samples-in (now (text .entry)) ≡ Good (samples-of (vec-items (runs .list)))) (λ e. Fails e (now (text .entry))) ⌝ }
 {
+    let mut lines = Lines::new(text);
     let mut runs = Runs::new(heap);
-    let mut line = 0;
-    let mut place = 0u64;
-    let mut rest = text;
-    while !rest.is_empty() {
-        let (run, after) = read_line(rest, line, place)?;
-        runs.push(run)?;
-        line += 1;
-        place = place.saturating_add(u64::from(run.count));
-        rest = after;
+    while let Some(run) = lines.next_run()? {
+        if runs.push(run).is_err() {
+            // A line at fault comes before want of memory, however far on it is.
+            lines.check_rest()?;
+            return Err(Failure::Memory);
+        }
     }
     Ok(runs)
 }

@@ -1,5 +1,6 @@
 //! Captures as text: a line `SAMPLE COUNT` for each run.
 mod capture;
+mod cursor;
 mod failure;
 mod line;
 mod number;

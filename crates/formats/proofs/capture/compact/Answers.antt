@@ -5,7 +5,7 @@ use Rattle.std.proofs.shelf.Results.{err-from-errBy}
 use Rattle.samples.proofs.Fewest.{rolled-minimal, packed-minimal}
 use Rattle.formats.specs.Capture.{samples-given}
 use Rattle.formats.specs.Text.{text-of}
-use Rattle.formats.proofs.Captures.{memory-fails, text-begins}
+use Rattle.formats.proofs.Captures.{memory-fails, text-some}
 use Rattle.formats.proofs.capture.compact.Needs as need
 
 pub returns : need.returns
@@ -28,4 +28,4 @@ returns-in-Break-write-capture c =
     let p = err-from-errBy result (c .from-residual-in-Break-write-capture .ensures .1) in
     let formed = packed-minimal (vec-items (runs .list)) (runs .packed) .formed in
     memory-fails _ (c .args .text .now) result (p .0) (p .1) (p .2)
-    (text-begins (c .args .text .now) (vec-items (runs .list)) (c .in-Continue-runs .ensures tt) formed (c .in-Break-write-capture .ensures tt))
+    (text-some (c .args .text .now) (vec-items (runs .list)) (c .in-Continue-runs .ensures tt) formed (c .in-Break-write-capture .ensures tt))
