@@ -21,9 +21,9 @@ use Rattle.samples.specs.Stream.{extended, Extends}
 use Rattle.samples.proofs.Rolled.{rolled-gives}
 use Rattle.formats.specs.declared.failure.Failure.{Failure}
 use Rattle.formats.specs.declared.failure.Failure.the-variants.{Memory}
-use Rattle.formats.specs.Text.{lines-of, runs-in, onto, later, next, reading-from}
+use Rattle.formats.specs.Text.{runs-in, onto}
 use Rattle.formats.specs.Capture.{samples-given, samples-in, Fails}
-use Rattle.formats.specs.Internal.{FirstLine, Next}
+use Rattle.formats.specs.Internal.{Next}
 
 samples-append : (rs : List Run) (r : Run) → samples-of (rs ++ (r ∷ [])) ≡ samples-of rs ++ replicate (r .count) (r .sample)
 samples-append [] r = append-nil (replicate (r .count) (r .sample))
@@ -34,21 +34,8 @@ onto-onto : (rs : List Run) (r : Run) (o : Result (List Run) (ℕ × ℕ)) → o
 onto-onto rs r (Ok xs) = ap Ok (sym (append-assoc rs (r ∷ []) xs))
 onto-onto rs r (Err e) = refl
 
--- one line more is read
-pub line-next :
-    (n p : ℕ) (rest after : List ℕ) (v : Result Run (ℕ × ℕ)) → FirstLine n p rest v after →
-    reading-from n p (lines-of rest) ≡ next v (λ r. reading-from (n + 1) (later p r) (lines-of after))
-line-next n p rest after v line =
-    ap (reading-from n p) (line .cut) ∙ ap (λ o. next o (λ r. reading-from (n + 1) (later p r) (lines-of after))) (line .read)
-
 pub read-more : (all left more : Result (List Run) (ℕ × ℕ)) (rs : List Run) (r : Run) → all ≡ onto rs left → left ≡ onto (r ∷ []) more → all ≡ onto (rs ++ (r ∷ [])) more
 read-more all left more rs r so-far next = so-far ∙ ap (onto rs) next ∙ onto-onto rs r more
-
-pub read-all : (all left : Result (List Run) (ℕ × ℕ)) (rs : List Run) → all ≡ onto rs left → left ≡ Ok [] → all ≡ Ok rs
-read-all all left rs so-far end = so-far ∙ ap (onto rs) end ∙ ap Ok (append-nil rs)
-
-pub read-refused : (all left : Result (List Run) (ℕ × ℕ)) (rs : List Run) (e : ℕ × ℕ) → all ≡ onto rs left → left ≡ Err e → samples-given all ≡ Err e
-read-refused all left rs e so-far err = ap samples-given (so-far ∙ ap (onto rs) err)
 
 -- the runs `kept` hold the samples of the runs that were read
 pub kept-more :
