@@ -1,4 +1,6 @@
 //! Reads a capture from standard input, and writes it in as few runs as there can be.
+#![tactic(auto)]
+
 use formats::compact;
 use std::io::{Read, Write};
 

@@ -1,4 +1,6 @@
 //! Reads a header and a capture from standard input, and lists what is read of it.
+#![tactic(auto)]
+
 use readout::decode_text;
 use std::io::{Read, Write};
 

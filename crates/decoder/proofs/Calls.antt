@@ -7,7 +7,7 @@ use Rattle.samples.specs.declared.answer.Done.{Done}
 use Rattle.samples.specs.declared.answer.Done.TheVariants.{Read, Refused}
 use Rattle.samples.specs.declared.answer.Refusal.{Refusal}
 use Rattle.samples.specs.declared.answer.Refusal.TheVariants.{Memory, Samples, Room}
-use Rattle.samples.specs.Room.{filled}
+use Rattle.samples.specs.Roll.{filled}
 use Rattle.decoder.specs.Machine.{run, outputs}
 use Rattle.decoder.specs.Reading.{After, refused, numbers_read, read_all, read_from, reading, TwoReadAsOne, LeftIsTakenBack, CutIsRead, call_with}
 use Rattle.decoder.proofs.Cut.{run-append, outputs-append, joined-append, length-joined}

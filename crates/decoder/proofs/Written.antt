@@ -2,7 +2,7 @@
 use Rattle.std.proofs.Common.{◌≡◌, ℕ, ◌+◌, ◌-◌, ◌≤◌, List, [], ◌++◌, length, take, drop, sym, ap, ◌∙◌, append_assoc, arith, length-append}
 use borrow.Rule.Slice.PartMut.{put_mid}
 use Rattle.std.proofs.lemmas.List.{append-nil, drop-drop}
-use Rattle.samples.specs.Room.{filled}
+use Rattle.samples.specs.Roll.{filled}
 use Rattle.samples.proofs.Room.{take-written, drop-written, room_filled}
 
 -- so far `at` numbers are written into a room that held `start`, and with those of `left` it is all

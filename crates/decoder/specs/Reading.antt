@@ -5,7 +5,7 @@ use Rattle.samples.specs.declared.answer.Done.{Done}
 use Rattle.samples.specs.declared.answer.Done.TheVariants.{Read, Waiting, Refused}
 use Rattle.samples.specs.declared.answer.Refusal.{Refusal}
 use Rattle.samples.specs.declared.answer.Refusal.TheVariants.{Memory, Samples, Room}
-use Rattle.samples.specs.Room.{filled}
+use Rattle.samples.specs.Roll.{filled}
 use Rattle.decoder.specs.Machine.{run, outputs, outputs_at}
 
 -- after a call: its answer, and what the memory and the room hold

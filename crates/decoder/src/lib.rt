@@ -1,4 +1,6 @@
 //! What reads samples on: one core for every decoder.
+#![tactic(auto)]
+
 mod machine;
 mod reading;
 mod theorems;

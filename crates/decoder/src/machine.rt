@@ -1,6 +1,6 @@
 //! A decoder is a machine over samples, and its state is its own model.
 ghost use Rattle.std.specs.Prelude.{◌≡◌, ℕ, ◌≤◌, List, length, Ok as Good, Option, Result};
-ghost use Rattle.samples.specs.Room.{filled};
+ghost use Rattle.samples.specs.Roll.{filled};
 
 /// Takes one input after the other, and may give an output at each.
 pub trait Machine: Copy {

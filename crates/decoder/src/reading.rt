@@ -1,6 +1,6 @@
 //! Samples read on from a lent memory into a lent room, by any decoder.
 ghost use Rattle.std.specs.Prelude.{◌≡◌, ◌*◌, ◌≤◌, length, nat_le};
-ghost use Rattle.samples.specs.Room.{filled};
+ghost use Rattle.samples.specs.Roll.{filled};
 ghost use Rattle.decoder.specs.Machine.{run, outputs};
 ghost use Rattle.decoder.specs.Reading.{numbers_read, reading};
 

@@ -1,4 +1,6 @@
 //! Examples of what the crates below do, as tests.
+#![tactic(auto)]
+
 #[cfg(test)]
 mod headers;
 #[cfg(test)]

@@ -1,12 +1,12 @@
 -- What is written is read back. Assumes nothing.
-use Rattle.std.proofs.Common.{◌≡◌, ℕ, ◌≤◌, List, [], ◌∷◌, ◌++◌, Ok, decimal, refl, ap, ◌∙◌, arith}
+use Rattle.std.proofs.Common.{◌≡◌, ℕ, ◌+◌, ◌≤◌, List, [], ◌∷◌, ◌++◌, Ok, decimal, refl, ap, ◌∙◌, arith}
 use Rattle.std.specs.Str.Parse.{digits_value}
 use Rattle.std.proofs.lemmas.Fmt.{decimal_is_IsNumeral}
 use Rattle.std.proofs.lemmas.List.{length-append}
 use Rattle.std.proofs.lemmas.Bool.Decides.{nat_tests}
 use Rattle.samples.specs.declared.run.Run.{Run}
 use Rattle.samples.specs.Runs.{WellFormed}
-use Rattle.formats.specs.Text.{line_of, text_of, lines_of, run_in, run_of, onto, later, next_line, next, reading_from, SixteenBit, RoundTrip}
+use Rattle.formats.specs.Text.{line_of, text_of, lines_of, run_in, run_of, onto, later, next, reading_from, SixteenBit, RoundTrip}
 use Rattle.formats.proofs.Parting.{lines_cut}
 use Rattle.formats.proofs.Lines.{lacks_newline, run-two}
 
@@ -26,8 +26,8 @@ back : (n p : ℕ) (rs : List Run) → WellFormed rs → SixteenBit rs → readi
 back n p [] w s = refl
 back n p (r ∷ rs) w s =
     ap (reading_from n p) (lines_back r (text_of rs) w.1 s.0)
-    ∙ ap (λ v. next v (λ q. reading_from (next_line n) (later p q) (lines_of (text_of rs)))) (line_back n p r w.0 w.1 s.0)
-    ∙ ap (onto (r ∷ [])) (back (next_line n) (later p r) rs w.2 s.1)
+    ∙ ap (λ v. next v (λ q. reading_from (n + 1) (later p q) (lines_of (text_of rs)))) (line_back n p r w.0 w.1 s.0)
+    ∙ ap (onto (r ∷ [])) (back (n + 1) (later p r) rs w.2 s.1)
 
 pub round_trip : RoundTrip
 round_trip rs w s = back 0 0 rs w s

@@ -3,24 +3,20 @@ use Rattle.std.proofs.Common.{◌≡◌, ℕ, ◌-◌, ◌<◌, min, List, [], �
 use Rattle.std.specs.Str.Iter.{LacksByte}
 use Rattle.std.specs.Str.Parse.{digits_value, AllDigits}
 use Rattle.std.specs.Int.{IsInRange}
-use Rattle.std.proofs.lemmas.List.{append_cancel_right, length-append, take_rest, drop_more}
+use Rattle.std.proofs.lemmas.List.{length-append, take_rest, drop_more}
 use Rattle.std.proofs.lemmas.Str.Parse.{digit_from_value, not_in_digits}
 use Rattle.std.proofs.lemmas.Bool.Decides.{nat_tests}
 use Rattle.samples.specs.declared.run.Run.{Run}
 use Rattle.formats.specs.Text.{lines_of, run_in, run_of, run_with, run_from, run_parted}
-use Rattle.formats.specs.Number.{NoDigit, Front, Ends}
-use Rattle.formats.specs.Internal.{TwoNumbers, NoTwoNumbers, FirstLine}
+use Rattle.formats.specs.Internal.{NoDigit, Front, Ends, TwoNumbers, NoTwoNumbers, FirstLine}
 use Rattle.formats.proofs.Numbers.{own, number_some, number_cases}
 use Rattle.formats.proofs.Parting.{find_mark, lacks_cons, lacks_append, parted-none, parted-at, lines_cut, ends_less}
 
 -- NO TWO NUMBERS
 
-some_digit : (ds rest : List ℕ) → 0 < length ds → AllDigits 10 ds → NoDigit (ds ++ rest) → ⊥
-some_digit [] rest some all out = omega arith
-some_digit (d ∷ ds) rest some all out = out (digit_from_value d all.0)
-
-pub no_front : (text rest : List ℕ) (n : ℕ) → NoDigit text → Front text n rest → ⊥
-no_front text rest n out f = some_digit f.digits rest f.some f.all (subst NoDigit f.cut out)
+no_front : (ds rest : List ℕ) → 0 < length ds → AllDigits 10 ds → NoDigit (ds ++ rest) → ⊥
+no_front [] rest some all out = omega arith
+no_front (d ∷ ds) rest some all out = out (digit_from_value d all.0)
 
 one_rest : (ds es a b : List ℕ) → AllDigits 10 ds → AllDigits 10 es → NoDigit a → NoDigit b → ds ++ a ≡ es ++ b → a ≡ b
 one_rest [] [] a b hd he na nb e = e
@@ -29,18 +25,11 @@ one_rest (d ∷ ds) [] a b hd he na nb e = absurd (subst NoDigit (sym e) nb (dig
 one_rest (d ∷ ds) (c ∷ es) a b hd he na nb e = one_rest ds es a b hd.1 he.1 na nb (ap (drop 1) e)
 
 -- what follows the digits is the same for each reader
-pub same_rest : (text a b : List ℕ) (n m : ℕ) → Front text n a → NoDigit a → Front text m b → NoDigit b → a ≡ b
+same_rest : (text a b : List ℕ) (n m : ℕ) → Front text n a → NoDigit a → Front text m b → NoDigit b → a ≡ b
 same_rest text a b n m f na g nb = one_rest f.digits g.digits a b f.all g.all na nb (sym f.cut ∙ g.cut)
 
--- and so is the number, as far as it is read exactly
-pub same_number : (text a b : List ℕ) (n m : ℕ) → Front text n a → NoDigit a → Front text m b → NoDigit b → min n 1000001 ≡ min m 1000001
-same_number text a b n m f na g nb =
-    let e = same_rest text a b n m f na g nb in
-    let ds = append_cancel_right f.digits g.digits b (ap (λ l. f.digits ++ l) (sym e) ∙ sym f.cut ∙ g.cut) in
-    f.same ∙ ap (λ l. min (digits_value 10 l) 1000001) ds ∙ sym g.same
-
 pub no_sample : (text : List ℕ) → NoDigit text → NoTwoNumbers text
-no_sample text out s c after t = no_front text (32 ∷ t.rest) s out t.sample
+no_sample text out s c after t = no_front t.sample.digits (32 ∷ t.rest) t.sample.some t.sample.all (subst NoDigit t.sample.cut out)
 
 pub no_space : (text rest : List ℕ) (n : ℕ) → Front text n rest → NoDigit rest → (0 < length rest → get_or rest 0 0 ≡ 32 → ⊥) → NoTwoNumbers text
 no_space text rest n f out other s c after t =
@@ -52,18 +41,22 @@ rest_is text r n s c after f t =
 
 pub no_count : (text r : List ℕ) (n : ℕ) → Front text n (32 ∷ r) → NoDigit r → NoTwoNumbers text
 no_count text r n f out s c after t =
-    no_front t.rest t.end c (subst NoDigit (sym (rest_is text r n s c after f t)) out) t.count
+    no_front t.count.digits t.end t.count.some t.count.all (subst NoDigit (sym (rest_is text r n s c after f t) ∙ t.count.cut) out)
 
-pub ends_no_digit : (end after : List ℕ) → Ends end after → NoDigit end
+ends_no_digit : (end after : List ℕ) → Ends end after → NoDigit end
 ends_no_digit [] after e = tt
 ends_no_digit (b ∷ end) after e = λ h. omega (arith, e.0)
 
+ends-first : (end after : List ℕ) → 0 < length end → Ends end after → get_or end 0 0 ≡ 10
+ends-first [] after some e = absurd (omega arith)
+ends-first (b ∷ end) after some e = e.0
+
 pub no_end :
-    (text r end : List ℕ) (n m : ℕ) → Front text n (32 ∷ r) → Front r m end → NoDigit end → ((after : List ℕ) → Ends end after → ⊥) → NoTwoNumbers text
-no_end text r end n m f g out other s c after t =
+    (text r end : List ℕ) (n m : ℕ) → Front text n (32 ∷ r) → Front r m end → NoDigit end → 0 < length end → (get_or end 0 0 ≡ 10 → ⊥) → NoTwoNumbers text
+no_end text r end n m f g out some other s c after t =
     let h = subst (λ l. Front l c t.end) (rest_is text r n s c after f t) t.count in
     let e = same_rest r t.end end c m h (ends_no_digit t.end after t.ends) g out in
-    other after (subst (λ l. Ends l after) e t.ends)
+    other (ends-first end after some (subst (λ l. Ends l after) e t.ends))
 
 -- TWO NUMBERS
 
@@ -78,10 +71,6 @@ ends_text (b ∷ rest) e = absurd (omega arith)
 pub ends_newline : (rest : List ℕ) → 0 < length rest → get_or rest 0 0 ≡ 10 → Ends rest (take (length rest - 1) (drop 1 rest))
 ends_newline [] some e = absurd (omega arith)
 ends_newline (b ∷ rest) some e = (e, sym (take_rest (b ∷ rest) 1))
-
-pub no_newline : (rest : List ℕ) → 0 < length rest → (get_or rest 0 0 ≡ 10 → ⊥) → (after : List ℕ) → Ends rest after → ⊥
-no_newline [] some other after e = omega arith
-no_newline (b ∷ rest) some other after e = other e.0
 
 -- THE FIRST LINE
 
@@ -110,7 +99,7 @@ run-two n p ds es sd hd se he =
     ap (run_parted n p) (parted-at 32 ds es (lacks_digits 32 ds hd (λ o. omega arith))) ∙ ap (λ o. run_from n p o es) (number_some ds sd hd)
     ∙ ap (run_with n p (digits_value 10 ds)) (number_some es se he)
 
-run-same : (n p s c v w : ℕ) → min s 1000001 ≡ min v 1000001 → min c 1000001 ≡ min w 1000001 → run_of n p v w ≡ run_of n p s c
+run-same : (n p s c v w : ℕ) → min s 65536 ≡ min v 65536 → min c 65536 ≡ min w 65536 → run_of n p v w ≡ run_of n p s c
 run-same n p s c v w es ec = grind (arith, nat_tests)
 
 pub line_read : (n p : ℕ) (text : List ℕ) (s c : ℕ) (after : List ℕ) (v : Result Run (ℕ × ℕ)) → TwoNumbers text s c after → run_of n p s c ≡ v → FirstLine n p text v after

@@ -11,7 +11,7 @@ meaning_of (Setting p) = codes "this setting is out of its range; the first is s
 meaning_of (Memory p) = codes "no reader leaves such a memory; the first number is number 0"
 meaning_of (Samples p) = codes "this sample is above 65535; the first is sample 0"
 meaning_of (Room p) = codes "too little room for what was read"
-meaning_of (Text p) = codes "this line is neither a header nor SAMPLE COUNT, COUNT 1 to 65535; the first is line 0"
+meaning_of (Text p) = codes "this line is not SAMPLE COUNT with a count of 1 to 65535; the first is line 0"
 
 abbrev pub message_of : Failure → List ℕ
 message_of NoMemory = codes "out of memory"

@@ -65,12 +65,9 @@ abbrev pub onto : List Run → Result (List Run) (ℕ × ℕ) → Result (List R
 onto rs (Ok xs) = Ok (rs ++ xs)
 onto rs (Err e) = Err e
 
--- places and lines are counted to 2 ^ 64 - 1 and no further
+-- a place counts to 2 ^ 64 - 1 and no further
 abbrev pub later : ℕ → Run → ℕ
 later p r = min (p + r.count) (2 ^ 64 - 1)
-
-abbrev pub next_line : ℕ → ℕ
-next_line n = min (n + 1) (2 ^ 64 - 1)
 
 abbrev pub next : Result Run (ℕ × ℕ) → (Run → Result (List Run) (ℕ × ℕ)) → Result (List Run) (ℕ × ℕ)
 next (Ok r) rest = onto (r ∷ []) (rest r)
@@ -78,15 +75,11 @@ next (Err e) rest = Err e
 
 abbrev pub reading_from : (n p : ℕ) → List (List ℕ) → Result (List Run) (ℕ × ℕ)
 reading_from n p [] = Ok []
-reading_from n p (l ∷ ls) = next (run_in n p l) (λ r. reading_from (next_line n) (later p r) ls)
+reading_from n p (l ∷ ls) = next (run_in n p l) (λ r. reading_from (n + 1) (later p r) ls)
 
--- the runs of a text whose first line is line n; or, of its first line at fault, the refusal's number and place
-abbrev pub runs_from : ℕ → List ℕ → Result (List Run) (ℕ × ℕ)
-runs_from n bs = reading_from n 0 (lines_of bs)
-
--- the same of a text that follows no other lines
+-- the runs of a text; or, of its first line at fault, the refusal's number and place
 abbrev pub runs_in : List ℕ → Result (List Run) (ℕ × ℕ)
-runs_in bs = runs_from 0 bs
+runs_in bs = reading_from 0 0 (lines_of bs)
 
 -- ROUND TRIP
 

@@ -1,7 +1,7 @@
 //! Whole captures.
 ghost use Rattle.std.specs.Prelude.{◌≡◌, Ok as Good, MatchResult};
 ghost use Rattle.samples.specs.Runs.{samples_of};
-ghost use Rattle.formats.specs.Capture.{samples_in, samples_from, Fails, FailsFrom, Writes, Compacts};
+ghost use Rattle.formats.specs.Capture.{samples_in, Fails, Writes, Compacts};
 
 use crate::cursor::Lines;
 use crate::failure::Failure;
@@ -13,14 +13,7 @@ use std::alloc::{AllocError, Global};
 pub fn read_capture(heap: Global, text: &[u8]) -> Result<Runs, Failure>
     ensures { MatchResult result (λ runs. samples_in text.now ≡ Good (samples_of runs.list.items)) (λ e. Fails e text.now) }
 {
-    read_capture_from(heap, 0, text)
-}
-
-/// As `read_capture`, of a text that follows other lines: its first line counts as line `line`.
-pub fn read_capture_from(heap: Global, line: u64, text: &[u8]) -> Result<Runs, Failure>
-    ensures { MatchResult result (λ runs. samples_from line text.now ≡ Good (samples_of runs.list.items)) (λ e. FailsFrom line e text.now) }
-{
-    let mut lines = Lines::after(line, text);
+    let mut lines = Lines::new(text);
     let mut runs = Runs::new(heap);
     while let Some(run) = lines.next_run()? {
         if runs.push(run).is_err() {

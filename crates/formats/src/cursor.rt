@@ -1,11 +1,11 @@
 //! The lines of a capture, one after the other.
-ghost use Rattle.std.specs.Prelude.{◌≡◌};
+ghost use Rattle.std.specs.Prelude.{◌≡◌, ◌+◌, ◌^◌, ◌<◌, length};
 ghost use Rattle.formats.specs.Internal.{Next, Checked};
 
 use crate::line::read_line;
 use samples::{Refusal, Run};
 
-/// What is left of a text, and how many lines and samples come before it, up to 2^64 - 1 and no further.
+/// What is left of a text, and how many lines and samples came before it.
 #[derive(Clone, Copy)]
 pub(crate) struct Lines<'a> {
     rest: &'a [u8],
@@ -14,19 +14,20 @@ pub(crate) struct Lines<'a> {
 }
 
 impl<'a> Lines<'a> {
-    /// All lines of a text, the first of which counts as line `line`.
-    pub(crate) fn after(line: u64, text: &'a [u8]) -> Lines<'a>
-        ensures { (result.rest.now ≡ text.now) × (result.line ≡ line) × (result.place ≡ 0) }
+    /// All lines of a text.
+    pub(crate) fn new(text: &'a [u8]) -> Lines<'a>
+        ensures { (result.rest.now ≡ text.now) × (result.line ≡ 0) × (result.place ≡ 0) }
     {
         Lines {
             rest: text,
-            line,
+            line: 0,
             place: 0,
         }
     }
 
     /// The run of the next line, or nothing at the end.
     pub(crate) fn next_run(&mut self) -> Result<Option<Run>, Refusal>
+        requires { self.old.line + length self.old.rest.now < 2 ^ 64 }
         ensures { Next result self.old.line self.old.place self.old.rest.now self.new.line self.new.place self.new.rest.now }
     {
         let rest = self.rest;
@@ -35,13 +36,14 @@ impl<'a> Lines<'a> {
         }
         let (run, after) = read_line(rest, self.line, self.place)?;
         self.rest = after;
-        self.line = self.line.saturating_add(1);
+        self.line += 1;
         self.place = self.place.saturating_add(u64::from(run.count));
         Ok(Some(run))
     }
 
     /// Reads on to the end, for a line at fault.
     pub(crate) fn check_rest(&mut self) -> Result<(), Refusal>
+        requires { self.old.line + length self.old.rest.now < 2 ^ 64 }
         ensures { Checked result self.old.line self.old.place self.old.rest.now }
     {
         while let Some(_) = self.next_run()? {}

@@ -41,7 +41,7 @@ fn meaning(refusal: Refusal) -> &'static str
         Refusal::Samples(_) => "this sample is above 65535; the first is sample 0",
         Refusal::Room(_) => "too little room for what was read",
         Refusal::Text(_) =>
-            "this line is neither a header nor SAMPLE COUNT, COUNT 1 to 65535; the first is line 0",
+            "this line is not SAMPLE COUNT with a count of 1 to 65535; the first is line 0",
     }
 }
 

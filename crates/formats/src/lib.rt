@@ -1,4 +1,6 @@
 //! Captures as text: a line `SAMPLE COUNT` for each run.
+#![tactic(auto)]
+
 mod capture;
 mod cursor;
 mod failure;
@@ -6,8 +8,6 @@ mod line;
 mod number;
 mod theorems;
 
-pub use capture::{compact, read_capture, read_capture_from, write_capture};
+pub use capture::{compact, read_capture, write_capture};
 pub use failure::Failure;
-pub use line::end_line;
-pub use number::read_number;
 pub use theorems::round_trip;

@@ -1,4 +1,6 @@
 //! What a decoder reads of a capture, from text to text.
+#![tactic(auto)]
+
 mod decode;
 mod header;
 mod listing;

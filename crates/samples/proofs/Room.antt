@@ -3,8 +3,7 @@ use Rattle.std.proofs.Common.{◌≡◌, ℕ, ◌+◌, ◌-◌, ◌*◌, ◌≤�
 use borrow.Rule.Slice.PartMut.{put_mid}
 use Rattle.std.proofs.lemmas.List.{append-nil, append_assoc, take_at, drop_at, drop_all, drop-drop, take_rest, length-take-le}
 use Rattle.samples.specs.declared.run.Run.{Run}
-use Rattle.samples.specs.Roll.{numbers}
-use Rattle.samples.specs.Room.{filled}
+use Rattle.samples.specs.Roll.{numbers, filled}
 
 pub length-numbers : (rs : List Run) → length (numbers rs) ≡ 2 * length rs
 length-numbers [] = refl

@@ -2,6 +2,5 @@ pub mod Answer
 pub mod Internal
 pub mod Line
 pub mod Roll
-pub mod Room
 pub mod Runs
 pub mod Stream

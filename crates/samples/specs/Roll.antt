@@ -1,16 +1,19 @@
 -- What `roll` answers of samples and a room. Assumes nothing: these are definitions.
-use Rattle.std.specs.Prelude.{◌≡◌, ℕ, ◌*◌, ◌<◌, ◌≤◌, ◌⊎◌, List, [], ◌∷◌, length}
+use Rattle.std.specs.Prelude.{◌≡◌, ℕ, ◌*◌, ◌<◌, ◌≤◌, ◌⊎◌, List, [], ◌∷◌, ◌++◌, length, drop}
 use Rattle.samples.specs.declared.answer.Done.{Done}
 use Rattle.samples.specs.declared.answer.Done.TheVariants.{Read, Waiting, Refused}
 use Rattle.samples.specs.declared.run.Run.{Run}
 use Rattle.samples.specs.Answer.{number_of, place_of}
-use Rattle.samples.specs.Room.{filled}
 use Rattle.samples.specs.Runs.{samples_of, WellFormed, Minimal}
 
 -- two numbers for each run
 abbrev pub numbers : List Run → List ℕ
 numbers [] = []
 numbers (r ∷ rs) = r.sample ∷ (r.count ∷ numbers rs)
+
+-- the first numbers of the room are these, and the others stay
+abbrev pub filled : List ℕ → List ℕ → List ℕ
+filled ns room = ns ++ drop (length ns) room
 
 -- why a piece is refused, by number and place: too many samples; or too little room for any runs that give them
 abbrev pub Unrollable : (samples room : List ℕ) → (number place : ℕ) → Type 0

@@ -1,4 +1,6 @@
 //! Samples of sixteen lines, and samples kept as runs.
+#![tactic(auto)]
+
 mod answer;
 mod line;
 mod piece;

@@ -1,7 +1,6 @@
 //! A piece of samples, rolled up into a lent room.
 ghost use Rattle.std.specs.Prelude.{◌≡◌, ◌*◌, ◌≤◌, [], ◌∷◌, length};
-ghost use Rattle.samples.specs.Roll.{numbers, Rolls};
-ghost use Rattle.samples.specs.Room.{filled};
+ghost use Rattle.samples.specs.Roll.{numbers, filled, Rolls};
 ghost use Rattle.samples.specs.Runs.{rolled};
 
 use crate::answer::{Done, Refusal};

@@ -1,4 +1,6 @@
 //! What bench/ calls from C.
+#![tactic(auto)]
+
 ghost use Rattle.std.specs.Prelude.{◌≡◌};
 ghost use Rattle.samples.specs.Roll.{Rolls};
 ghost use Rattle.samples.specs.declared.answer.Done.{Done as Answer};

@@ -1,4 +1,6 @@
 //! Reads pseudo-random waves through `serial`, and compares with what was sent, or with a plain reader.
+#![tactic(auto)]
+
 mod pieces;
 mod plain;
 mod random;

@@ -2,7 +2,7 @@
 use Rattle.std.proofs.Common.{◌≡◌, ℕ, ◌+◌, ◌*◌, ◌≤◌, List, [], ◌∷◌, ◌++◌, map, length, Some, None, Ok, Option, sym, refl, ap, ◌∙◌, subst, ⊎_elim, mul-le-mul_right, arith, rules}
 use Rattle.std.specs.List.{flat_map}
 use Rattle.std.proofs.lemmas.Bool.{le-leb, le-ltb}
-use Rattle.samples.specs.Room.{filled}
+use Rattle.samples.specs.Roll.{filled}
 use Rattle.samples.specs.declared.answer.Done.{Done}
 use Rattle.samples.specs.declared.answer.Done.TheVariants.{Read}
 use Rattle.samples.specs.declared.answer.Refusal.{Refusal}

@@ -3,7 +3,7 @@ use Rattle.std.specs.Prelude.{◌≡◌, ℕ, ◌+◌, ◌*◌, ◌≤◌, true,
 use Rattle.std.specs.List.{flat_map}
 use Rattle.samples.specs.declared.answer.Done.TheVariants.{Read}
 use Rattle.samples.specs.Line.{level}
-use Rattle.samples.specs.Room.{filled}
+use Rattle.samples.specs.Roll.{filled}
 use Rattle.decoder.specs.Machine.{run, placed_within}
 use Rattle.decoder.specs.Reading.{After, numbers_given, CutIsRead}
 use Rattle.uart.specs.declared.words.Word.{Word}

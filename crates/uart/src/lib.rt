@@ -1,4 +1,6 @@
 //! Bytes on an asynchronous serial line.
+#![tactic(auto)]
+
 mod decode;
 mod entry;
 mod theorems;

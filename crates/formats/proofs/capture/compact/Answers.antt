@@ -27,4 +27,4 @@ returns-in-err-write-capture c =
     let p = err_from_is_err_and result c.from-residual-in-err-write-capture.ensures.1 in
     let formed = (packed_minimal (vec_items runs.list) runs.packed).formed in
     memory-fails _ c.args.text.now result p.0 p.1 p.2
-    (text_some 0 c.args.text.now (vec_items runs.list) c.in-ok-runs.ensures formed c.in-err-write-capture.ensures)
+    (text_some c.args.text.now (vec_items runs.list) c.in-ok-runs.ensures formed c.in-err-write-capture.ensures)

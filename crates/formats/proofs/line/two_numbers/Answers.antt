@@ -1,6 +1,6 @@
 use Rattle.std.proofs.Common.{◌-◌, ◌∷◌, length, take, drop, rules}
-use Rattle.formats.specs.Number.{Front}
-use Rattle.formats.proofs.Lines.{no_sample, no_space, no_count, no_end, front_at}
+use Rattle.formats.specs.Internal.{Front}
+use Rattle.formats.proofs.Lines.{no_sample, no_space, no_count, no_end, front_at, ends_text, ends_newline}
 use Rattle.formats.proofs.line.two_numbers.Goals as goal
 use Rattle.formats.proofs.line.two_numbers.Goals.{In-32}
 
@@ -24,19 +24,28 @@ returns-in-err-count c =
     rw c.from-residual-in-err-count.ensures
     (no_count c.args.text.now _ c.in-ok-sample.sample (spaced (goal.at.returns-in-err-count c).In-32) c.in-err-count.ensures)
 
-pub returns-in-err-after : goal.returns-in-err-after
-returns-in-err-after c =
-    let read = c.in-ok-count.ensures in
-    rw c.from-residual-in-err-after.ensures
-    (no_end c.args.text.now _ c.in-ok-count.rest.now c.in-ok-sample.sample c.in-ok-count.count
-    (spaced (goal.at.returns-in-err-after c).In-32) read.0 read.1 c.in-err-after.ensures)
-
-pub returns : goal.returns
-returns c =
+pub returns-in-empty : goal.returns-in-empty
+returns-in-empty c =
     record {
       rest = _;
       end = c.in-ok-count.rest.now;
-      sample = spaced (goal.at.returns c).In-32;
+      sample = spaced (goal.at.returns-in-empty c).In-32;
       count = c.in-ok-count.ensures.0;
-      ends = c.in-ok-after.ensures;
+      ends = ends_text c.in-ok-count.rest.now (search rules);
     }
+
+pub returns-in-10 : goal.returns-in-10
+returns-in-10 c =
+    record {
+      rest = _;
+      end = c.in-ok-count.rest.now;
+      sample = spaced (goal.at.returns-in-10 c).In-32;
+      count = c.in-ok-count.ensures.0;
+      ends = ends_newline c.in-ok-count.rest.now (search rules) (search rules);
+    }
+
+pub returns-in-default-default : goal.returns-in-default-default
+returns-in-default-default c =
+    let read = c.in-ok-count.ensures in
+    no_end c.args.text.now _ c.in-ok-count.rest.now c.in-ok-sample.sample c.in-ok-count.count
+    (spaced (goal.at.returns-in-default-default c).In-32) read.0 read.1 (search rules) (search rules)

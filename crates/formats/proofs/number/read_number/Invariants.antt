@@ -1,5 +1,5 @@
 use Rattle.std.proofs.Common.{length}
-use Rattle.formats.specs.Number.{Front}
+use Rattle.formats.specs.Internal.{Front}
 use Rattle.formats.proofs.number.read_number.Given as goal
 
 abbrev pub invariant-loop-rest : goal.invariant-loop-rest

@@ -1,9 +1,9 @@
-use Rattle.std.proofs.Common.{[], ◌∷◌, ◌++◌, replicate, Some, Ok, vec_items}
+use Rattle.std.proofs.Common.{[], ◌∷◌, ◌++◌, replicate, Some, Ok, vec_items, arith}
 use Rattle.formats.specs.Internal.{Next}
-use Rattle.formats.specs.Text.{lines_of, reading_from, runs_from}
+use Rattle.formats.specs.Text.{lines_of, reading_from, runs_in}
 use Rattle.formats.proofs.Captures.{next-some, read_more, kept_more, pushed-on, rest-checked}
-use Rattle.formats.proofs.capture.read_capture_from.Goals as goal
-use Rattle.formats.proofs.capture.read_capture_from.Goals.{In-Some}
+use Rattle.formats.proofs.capture.read_capture.Goals as goal
+use Rattle.formats.proofs.capture.read_capture.Goals.{In-Some}
 
 one-run :
     (c : In-Some) →
@@ -13,19 +13,20 @@ one-run c = next-some c.in-ok-run.field-0 c.in-Some.run' _ _ _ _ _ _ c.in-Some.i
 pub loop-runs-preserved : goal.loop-runs-preserved
 loop-runs-preserved c =
     let r = c.in-Some.run' in
-    let rs = c.loop-runs.invariant.0 in
+    let rs = c.loop-runs.invariant.0.0 in
     let after = c.next-run.new.self in
     let on = one-run (goal.at.loop-runs-preserved c).In-Some in
     let pushed = pushed-on c.push.result c.loop-runs.runs.list c.push.new.self.list (replicate r.count r.sample) c.if-is-err.ensures.value c.push.ensures.extends in (
-      rs ++ (r ∷ []),
-      kept_more (vec_items c.loop-runs.runs.list) (vec_items c.push.new.self.list) rs r c.loop-runs.invariant.1 pushed,
-      read_more (runs_from c.args.line c.args.text.now) _ (reading_from after.line after.place (lines_of after.rest.now)) rs r c.loop-runs.invariant.2 on.0,
+      (
+        rs ++ (r ∷ []),
+        kept_more (vec_items c.loop-runs.runs.list) (vec_items c.push.new.self.list) rs r c.loop-runs.invariant.0.1 pushed,
+        read_more (runs_in c.args.text.now) _ (reading_from after.line after.place (lines_of after.rest.now)) rs r c.loop-runs.invariant.0.2 on.0,
+      ),
+      omega (arith, on.1, c.loop-runs.invariant.1),
     )
 
 pub returns-then-is-err : goal.returns-then-is-err
 returns-then-is-err c =
     let on = one-run (goal.at.returns-then-is-err c).In-Some in
     let checked = c.in-ok-check-rest.ensures in
-    let before = c.loop-runs.lines in
-    let after = c.next-run.new.self in
-    rest-checked (runs_from c.args.line c.args.text.now) (reading_from before.line before.place (lines_of before.rest.now)) (reading_from after.line after.place (lines_of after.rest.now)) c.loop-runs.invariant.0 checked.0 c.in-Some.run' c.loop-runs.invariant.2 on.0 checked.1
+    rest-checked (runs_in c.args.text.now) _ _ c.loop-runs.invariant.0.0 checked.0 c.in-Some.run' c.loop-runs.invariant.0.2 on.0 checked.1
