@@ -1,5 +1,5 @@
 -- No runs that give the same samples are fewer than packed ones. Assumes nothing.
-use Rattle.std.proofs.Common.{◌≡◌, ℕ, ◌+◌, ◌<◌, ◌≤◌, ◌⊎◌, List, [], ◌∷◌, ◌++◌, length, get_or, drop, replicate, sym, ap, ◌∙◌, subst, ⊎_elim, arith, length-append}
+use Rattle.std.proofs.Common.{◌≡◌, ℕ, ◌+◌, ◌<◌, ◌≤◌, List, [], ◌∷◌, ◌++◌, length, get_or, drop, replicate, sym, ap, ◌∙◌, subst, ⊎_elim, arith, length-append}
 use Rattle.std.proofs.lemmas.List.{append_assoc, length-replicate, get_or-replicate, get_or_append_left, get_or-append-add, drop-append-le, drop_at}
 use Rattle.std.proofs.lemmas.Bool.{cases_lt}
 use Rattle.samples.specs.declared.run.Run.{Run}

@@ -4,7 +4,7 @@ use Rattle.samples.proofs.piece.count_runs.Goals as goal
 use Rattle.samples.proofs.piece.count_runs.Goals.{then-samples-i, else-samples-i}
 
 pub loop-i-init : goal.loop-i-init
-loop-i-init c = (omega arith, counted c.args.samples.now (omega (arith, false-eqb _ 0 c.if-is-empty.ensures)) c.requires)
+loop-i-init c = (omega arith, counted c.args.samples.now (omega (arith, false-eqb _ 0 c.if-is_empty.ensures)) c.requires)
 
 pub loop-i-preserved : goal.loop-i-preserved
 loop-i-preserved c =
@@ -22,5 +22,5 @@ pub returns : goal.returns
 returns c =
     record {
       value = omega (arith, c.loop-i.invariant.1, changes_none c.args.samples.now (get_or c.args.samples.now (c.loop-i.i - 1) 0) c.loop-i.i c.loop-i-test.false);
-      bound = omega (arith, c.requires, false-eqb _ 0 c.if-is-empty.ensures);
+      bound = omega (arith, c.requires, false-eqb _ 0 c.if-is_empty.ensures);
     }

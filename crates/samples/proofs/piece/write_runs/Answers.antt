@@ -6,8 +6,8 @@ use Rattle.samples.proofs.Appends.{first-left, left_within, none_left}
 use Rattle.samples.proofs.Room.{length-numbers, take-written, drop-written, room_filled}
 use Rattle.samples.proofs.piece.write_runs.Goals as goal
 
-pub write-run-requires : goal.write-run-requires
-write-run-requires c =
+pub write_run-requires : goal.write_run-requires
+write_run-requires c =
     let first = first-left c.in-Some.run' c.args.samples.now c.loop-run.from c.in-Some.ensures.rolls in
     omega (arith, ap length first, c.loop-run.invariant.1, c.requires, c.loop-run.auto.room, ap length (take_rest c.loop-run.room c.loop-run.at), length-drop c.loop-run.at c.loop-run.room)
 
@@ -27,15 +27,15 @@ loop-run-preserved c =
     let fits : at + 2 ≤ length room = omega (arith, ap length first, c.loop-run.invariant.1, c.requires, c.loop-run.auto.room) in (
       omega (arith, within, c.from-from.ensures),
       omega (arith, ap length first, c.loop-run.invariant.1),
-      ap (λ l. l ++ left) (take-written room _ (numbers (r ∷ [])) at fits c.write-run.ensures) ∙ append_assoc (take at room) (numbers (r ∷ [])) left
+      ap (λ l. l ++ left) (take-written room _ (numbers (r ∷ [])) at fits c.write_run.ensures) ∙ append_assoc (take at room) (numbers (r ∷ [])) left
           ∙ ap (λ rs. take at room ++ numbers rs) (sym first) ∙ c.loop-run.invariant.2,
-      drop-written room _ (numbers (r ∷ [])) at fits c.write-run.ensures ∙ sym (drop-drop 2 at room) ∙ ap (drop 2) c.loop-run.invariant.3 ∙ drop-drop 2 at c.args.room.now,
+      drop-written room _ (numbers (r ∷ [])) at fits c.write_run.ensures ∙ sym (drop-drop 2 at room) ∙ ap (drop 2) c.loop-run.invariant.3 ∙ drop-drop 2 at c.args.room.now,
     )
 
 pub returns : goal.returns
 returns c =
     let xs = c.args.samples.now in
-    let none = ap rolled (drop_all c.loop-run.from xs (none_left c.loop-run.from xs c.in-default.ensures.within)) in
+    let none = ap rolled (drop_all c.loop-run.from xs (none_left c.loop-run.from xs c.in_default.ensures.within)) in
     let all = ap (λ rs. take c.loop-run.at c.loop-run.room ++ numbers rs) (sym none) ∙ c.loop-run.invariant.2 in
     room_filled c.loop-run.room c.args.room.now (numbers (rolled xs)) c.loop-run.at (omega (arith, ap length none, c.loop-run.invariant.1, length-numbers (rolled xs)))
     (sym (append-nil (take c.loop-run.at c.loop-run.room)) ∙ all) c.loop-run.invariant.3
