@@ -1,5 +1,5 @@
 -- A text is read line by line, and its runs are kept as the runs of their samples. Assumes nothing.
-use Rattle.std.proofs.Common.{◌≡◌, ℕ, ◌+◌, ◌≤◌, false, List, [], ◌∷◌, ◌++◌, length, replicate, is_err, Some, Ok, Err, vec_items, Option, Result, Vec, sym, refl, ap, ◌∙◌, subst, append_assoc, append-nil, arith, length-append, MatchResult}
+use Rattle.std.proofs.Common.{◌≡◌, ℕ, ◌≤◌, false, List, [], ◌∷◌, ◌++◌, length, replicate, is_err, Some, Ok, Err, vec_items, Option, Result, Vec, sym, refl, ap, ◌∙◌, subst, append_assoc, append-nil, arith, length-append, MatchResult}
 use Rattle.std.specs.declared.alloc.Global.{Global}
 use Rattle.std.proofs.lemmas.Bool.{false≢true}
 use Rattle.std.proofs.lemmas.List.{length-replicate}

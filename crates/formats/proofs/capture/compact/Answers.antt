@@ -9,9 +9,9 @@ use Rattle.formats.proofs.capture.compact.Goals as goal
 
 pub returns : goal.returns
 returns c =
-    let runs = c.in-ok-runs.runs in
-    let wrote = c.in-ok-write-capture.ensures in
-    let given = c.in-ok-runs.ensures in
+    let runs = c.in_ok-runs.runs in
+    let wrote = c.in_ok-write_capture.ensures in
+    let given = c.in_ok-runs.ensures in
     record {
       samples = samples_of (vec_items runs.list);
       given = given;
@@ -20,11 +20,11 @@ returns c =
       same = ap samples_given wrote.1 ∙ sym given;
     }
 
-pub returns-in-err-write-capture : goal.returns-in-err-write-capture
-returns-in-err-write-capture c =
-    let runs = c.in-ok-runs.runs in
-    let result = c.from-residual-in-err-write-capture.result in
-    let p = err_from_is_err_and result c.from-residual-in-err-write-capture.ensures.1 in
+pub returns-in_err-write_capture : goal.returns-in_err-write_capture
+returns-in_err-write_capture c =
+    let runs = c.in_ok-runs.runs in
+    let result = c.from_residual-in_err-write_capture.result in
+    let p = err_from_is_err_and result c.from_residual-in_err-write_capture.ensures.1 in
     let formed = (packed_minimal (vec_items runs.list) runs.packed).formed in
     memory-fails _ c.args.text.now result p.0 p.1 p.2
-    (text_some c.args.text.now (vec_items runs.list) c.in-ok-runs.ensures formed c.in-err-write-capture.ensures)
+    (text_some c.args.text.now (vec_items runs.list) c.in_ok-runs.ensures formed c.in_err-write_capture.ensures)

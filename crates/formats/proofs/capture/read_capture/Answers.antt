@@ -7,16 +7,16 @@ use Rattle.formats.proofs.capture.read_capture.Goals.{In-Some}
 
 one-run :
     (c : In-Some) →
-    Next (Ok (Some c.in-Some.run')) c.loop-runs.lines.line c.loop-runs.lines.place c.loop-runs.lines.rest.now c.next-run.new.self.line c.next-run.new.self.place c.next-run.new.self.rest.now
-one-run c = next-some c.in-ok-run.field-0 c.in-Some.run' _ _ _ _ _ _ c.in-Some.is c.in-ok-run.ensures
+    Next (Ok (Some c.in-Some.run')) c.loop-runs.lines.line c.loop-runs.lines.place c.loop-runs.lines.rest.now c.next_run.new.self.line c.next_run.new.self.place c.next_run.new.self.rest.now
+one-run c = next-some c.in_ok-run.field-0 c.in-Some.run' _ _ _ _ _ _ c.in-Some.is c.in_ok-run.ensures
 
 pub loop-runs-preserved : goal.loop-runs-preserved
 loop-runs-preserved c =
     let r = c.in-Some.run' in
     let rs = c.loop-runs.invariant.0.0 in
-    let after = c.next-run.new.self in
+    let after = c.next_run.new.self in
     let on = one-run (goal.at.loop-runs-preserved c).In-Some in
-    let pushed = pushed-on c.push.result c.loop-runs.runs.list c.push.new.self.list (replicate r.count r.sample) c.if-is-err.ensures.value c.push.ensures.extends in (
+    let pushed = pushed-on c.push.result c.loop-runs.runs.list c.push.new.self.list (replicate r.count r.sample) c.if-is_err.ensures.value c.push.ensures.extends in (
       (
         rs ++ (r ∷ []),
         kept_more (vec_items c.loop-runs.runs.list) (vec_items c.push.new.self.list) rs r c.loop-runs.invariant.0.1 pushed,
@@ -25,8 +25,8 @@ loop-runs-preserved c =
       omega (arith, on.1, c.loop-runs.invariant.1),
     )
 
-pub returns-then-is-err : goal.returns-then-is-err
-returns-then-is-err c =
-    let on = one-run (goal.at.returns-then-is-err c).In-Some in
-    let checked = c.in-ok-check-rest.ensures in
+pub returns-then-is_err : goal.returns-then-is_err
+returns-then-is_err c =
+    let on = one-run (goal.at.returns-then-is_err c).In-Some in
+    let checked = c.in_ok-check_rest.ensures in
     rest-checked (runs_in c.args.text.now) _ _ c.loop-runs.invariant.0.0 checked.0 c.in-Some.run' c.loop-runs.invariant.0.2 on.0 checked.1

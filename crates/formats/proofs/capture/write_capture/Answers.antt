@@ -7,22 +7,22 @@ use Rattle.formats.proofs.capture.write_capture.Goals as goal
 pub loop-run-init : goal.loop-run-init
 loop-run-init c =
     let none = c.reserve.ensures.items ∙ c.new-out.ensures.items in (
-      (ap (λ l. l ++ text_of c.as-slice-list.result.now) none, tt),
-      omega (arith, c.in-ok-reserve.ensures.ok, c.in-Some.ensures),
+      (ap (λ l. l ++ text_of c.as_slice-list.result.now) none, tt),
+      omega (arith, c.in_ok-reserve.ensures.ok, c.in-Some.ensures),
     )
 
-pub put-line-requires : goal.put-line-requires
-put-line-requires c = omega (arith, c.loop-run.invariant.1, c.loop-run-test.true)
+pub put_line-requires : goal.put_line-requires
+put_line-requires c = omega (arith, c.loop-run.invariant.1, c.loop-run-test.true)
 
 pub loop-run-preserved : goal.loop-run-preserved
 loop-run-preserved c = (
-  written-more c.as-slice-list.result.now c.loop-run.run_index _ _ _ c.loop-run-test.true c.loop-run.invariant.0 c.put-line.ensures.items c.put-line.ensures.bound,
-  omega (arith, c.put-line.ensures.len, c.put-line.ensures.capacity, c.loop-run.invariant.1),
+  written-more c.as_slice-list.result.now c.loop-run.run-index _ _ _ c.loop-run-test.true c.loop-run.invariant.0 c.put_line.ensures.items c.put_line.ensures.bound,
+  omega (arith, c.put_line.ensures.len, c.put_line.ensures.capacity, c.loop-run.invariant.1),
 )
 
 pub returns : goal.returns
 returns c =
-    let rs = c.as-slice-list.result.now in
-    let all = written_all rs c.loop-run.run_index (vec_items c.loop-run.out) c.loop-run-test.false c.loop-run.invariant.0 in
-    subst (λ qs. (vec_items c.loop-run.out ≡ text_of qs) × (runs_in (vec_items c.loop-run.out) ≡ Ok qs)) c.as-slice-list.ensures.value
-    (all.0, ap runs_in all.0 ∙ round_trip rs c.as-slice-list.ensures.minimal.formed all.1)
+    let rs = c.as_slice-list.result.now in
+    let all = written_all rs c.loop-run.run-index (vec_items c.loop-run.out) c.loop-run-test.false c.loop-run.invariant.0 in
+    subst (λ qs. (vec_items c.loop-run.out ≡ text_of qs) × (runs_in (vec_items c.loop-run.out) ≡ Ok qs)) c.as_slice-list.ensures.value
+    (all.0, ap runs_in all.0 ∙ round_trip rs c.as_slice-list.ensures.minimal.formed all.1)

@@ -3,8 +3,8 @@ use Rattle.std.proofs.lemmas.Bool.Decides.{nat_tests}
 use Rattle.formats.proofs.Lines.{line_read, line_refused}
 use Rattle.formats.proofs.line.read_line.Goals as goal
 
-pub returns-in-default : goal.returns-in-default
-returns-in-default c = line_refused c.args.line c.args.place c.args.text.now c.requires c.in-default.ensures
+pub returns-in_default : goal.returns-in_default
+returns-in_default c = line_refused c.args.line c.args.place c.args.text.now c.requires c.in_default.ensures
 
 pub returns-then-count-eq0 : goal.returns-then-count-eq0
 returns-then-count-eq0 c = (

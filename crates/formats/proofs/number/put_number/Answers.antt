@@ -6,8 +6,8 @@ pub returns : goal.returns
 returns c =
     record {
       items =
-          five-digits c.args.number (vec_items c.args.out.now) _ _ _ _ _ (omega arith) c.put-digit.ensures.items c.put-digit-2.ensures.items
-          c.put-digit-3.ensures.items c.put-digit-4.ensures.items c.push-reserved.ensures.items;
+          five-digits c.args.number (vec_items c.args.out.now) _ _ _ _ _ (omega arith) c.put_digit.ensures.items c.put_digit-2.ensures.items
+          c.put_digit-3.ensures.items c.put_digit-4.ensures.items c.push_reserved.ensures.items;
       len = search rules;
       capacity = search rules;
     }
