@@ -30,7 +30,7 @@ fn runs_are_written_and_read_back(rt: HostRuntime) -> Result<(), Fail> {
     let heap = rt.alloc();
     let mut runs = Runs::new(heap);
     let none = write_capture(heap, &runs)?;
-    assert!(rt; none.as_slice() == b"");
+    assert!(rt; none.as_slice() == b"".as_slice());
     for (sample, count) in [
         (0, 1),
         (9, 10),
@@ -42,7 +42,9 @@ fn runs_are_written_and_read_back(rt: HostRuntime) -> Result<(), Fail> {
         runs.push(Run { sample, count })?;
     }
     let text = write_capture(heap, &runs)?;
-    assert!(rt; text.as_slice() == b"0 1\n9 10\n99 100\n999 1000\n9999 10000\n65535 65535\n");
+    assert!(rt;
+        text.as_slice() == b"0 1\n9 10\n99 100\n999 1000\n9999 10000\n65535 65535\n".as_slice()
+    );
     match read_capture(heap, text.as_slice()) {
         Ok(back) => {
             assert!(rt; back.as_slice() == runs.as_slice());

@@ -1,14 +1,15 @@
 -- The first line of a text is two numbers, as they are found from the front, or it is refused. Assumes nothing.
-use Rattle.std.proofs.Common.{◌≡◌, ℕ, ◌-◌, ◌<◌, min, List, [], ◌∷◌, ◌++◌, length, get_or, take, drop, Err, Result, sym, refl, ap, ◌∙◌, subst, ⊎_elim, append_assoc, append-nil, arith}
+use Rattle.std.proofs.Common.{◌≡◌, ℕ, ◌+◌, ◌-◌, ◌<◌, min, List, [], ◌∷◌, ◌++◌, length, get_or, take, drop, Err, Result, sym, refl, ap, ◌∙◌, subst, ⊎_elim, append_assoc, append-nil, arith}
 use Rattle.std.specs.Str.Iter.{LacksByte}
 use Rattle.std.specs.Str.Parse.{digits_value, AllDigits}
 use Rattle.std.specs.Int.{IsInRange}
-use Rattle.std.proofs.lemmas.List.{length-append, take_rest, drop_more}
+use Rattle.std.proofs.lemmas.List.{append_cancel_right, length-append, take_rest, drop_more}
 use Rattle.std.proofs.lemmas.Str.Parse.{digit_from_value, not_in_digits}
 use Rattle.std.proofs.lemmas.Bool.Decides.{nat_tests}
 use Rattle.samples.specs.declared.run.Run.{Run}
 use Rattle.formats.specs.Text.{lines_of, run_in, run_of, run_with, run_from, run_parted}
-use Rattle.formats.specs.Internal.{NoDigit, Front, Ends, TwoNumbers, NoTwoNumbers, FirstLine}
+use Rattle.formats.specs.Number.{NoDigit, FrontTo, Ends}
+use Rattle.formats.specs.Internal.{Front, TwoNumbers, NoTwoNumbers, FirstLine}
 use Rattle.formats.proofs.Numbers.{own, number_some, number_cases}
 use Rattle.formats.proofs.Parting.{find_mark, lacks_cons, lacks_append, parted-none, parted-at, lines_cut, ends_less}
 
@@ -28,6 +29,20 @@ one_rest (d ∷ ds) (c ∷ es) a b hd he na nb e = one_rest ds es a b hd.1 he.1 
 same_rest : (text a b : List ℕ) (n m : ℕ) → Front text n a → NoDigit a → Front text m b → NoDigit b → a ≡ b
 same_rest text a b n m f na g nb = one_rest f.digits g.digits a b f.all g.all na nb (sym f.cut ∙ g.cut)
 
+-- the same where more is read exactly, and then the number is the same too, as far as it is
+pub no_front_to : (exact : ℕ) (text rest : List ℕ) (n : ℕ) → NoDigit text → FrontTo exact text n rest → ⊥
+no_front_to exact text rest n out f = no_front f.digits rest f.some f.all (subst NoDigit f.cut out)
+
+pub same_rest_to : (exact : ℕ) (text a b : List ℕ) (n m : ℕ) → FrontTo exact text n a → NoDigit a → FrontTo exact text m b → NoDigit b → a ≡ b
+same_rest_to exact text a b n m f na g nb = one_rest f.digits g.digits a b f.all g.all na nb (sym f.cut ∙ g.cut)
+
+pub same_number :
+    (exact : ℕ) (text a b : List ℕ) (n m : ℕ) → FrontTo exact text n a → NoDigit a → FrontTo exact text m b → NoDigit b → min n (exact + 1) ≡ min m (exact + 1)
+same_number exact text a b n m f na g nb =
+    let e = same_rest_to exact text a b n m f na g nb in
+    let ds = append_cancel_right f.digits g.digits b (ap (λ l. f.digits ++ l) (sym e) ∙ sym f.cut ∙ g.cut) in
+    f.same ∙ ap (λ l. min (digits_value 10 l) (exact + 1)) ds ∙ sym g.same
+
 pub no_sample : (text : List ℕ) → NoDigit text → NoTwoNumbers text
 no_sample text out s c after t = no_front t.sample.digits (32 ∷ t.rest) t.sample.some t.sample.all (subst NoDigit t.sample.cut out)
 
@@ -43,7 +58,7 @@ pub no_count : (text r : List ℕ) (n : ℕ) → Front text n (32 ∷ r) → NoD
 no_count text r n f out s c after t =
     no_front t.count.digits t.end t.count.some t.count.all (subst NoDigit (sym (rest_is text r n s c after f t) ∙ t.count.cut) out)
 
-ends_no_digit : (end after : List ℕ) → Ends end after → NoDigit end
+pub ends_no_digit : (end after : List ℕ) → Ends end after → NoDigit end
 ends_no_digit [] after e = tt
 ends_no_digit (b ∷ end) after e = λ h. omega (arith, e.0)
 
@@ -71,6 +86,10 @@ ends_text (b ∷ rest) e = absurd (omega arith)
 pub ends_newline : (rest : List ℕ) → 0 < length rest → get_or rest 0 0 ≡ 10 → Ends rest (take (length rest - 1) (drop 1 rest))
 ends_newline [] some e = absurd (omega arith)
 ends_newline (b ∷ rest) some e = (e, sym (take_rest (b ∷ rest) 1))
+
+pub no_newline : (rest : List ℕ) → 0 < length rest → (get_or rest 0 0 ≡ 10 → ⊥) → (after : List ℕ) → Ends rest after → ⊥
+no_newline [] some other after e = omega arith
+no_newline (b ∷ rest) some other after e = other e.0
 
 -- THE FIRST LINE
 

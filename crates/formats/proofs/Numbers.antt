@@ -12,6 +12,7 @@ use Rattle.std.proofs.lemmas.Str.Parse.{IsNumeralModel, numerals_by_value, tells
 use Rattle.std.proofs.lemmas.Bool.{cond-true, cond-false, lt-ltb, ltb-true, and_from, and_parts, cases_lt, cases_Bool}
 use Rattle.std.proofs.lemmas.Bool.Decides.{nat_tests}
 use Rattle.formats.specs.Text.{number_in}
+use Rattle.formats.specs.Number.{FrontTo}
 use Rattle.formats.specs.Internal.{Front, last_digit}
 
 pub own : IsNumeralModel (λ ds. all_ascii_digits ds ≡ true) (digits_value 10)
@@ -32,8 +33,8 @@ digit_value b h = grind (arith, nat_tests)
 
 -- one digit more is read
 pub digit-more :
-    (text ds rest : List ℕ) (n m : ℕ) → text ≡ ds ++ rest → AllDigits 10 ds → min n 65536 ≡ min (digits_value 10 ds) 65536 → 0 < length rest → IsInRange 48 57 (get_or rest 0 0) →
-    min m 65536 ≡ min (n * 10 + (get_or rest 0 0 - 48)) 65536 → Front text m (take (length rest - 1) (drop 1 rest))
+    (text ds rest : List ℕ) (n m : ℕ) → text ≡ ds ++ rest → AllDigits 10 ds → min n 1000001 ≡ min (digits_value 10 ds) 1000001 → 0 < length rest → IsInRange 48 57 (get_or rest 0 0) →
+    min m 1000001 ≡ min (n * 10 + (get_or rest 0 0 - 48)) 1000001 → FrontTo 1000000 text m (take (length rest - 1) (drop 1 rest))
 digit-more text ds rest n m cut all same some is_digit e =
     let b = get_or rest 0 0 in
     let d = digit_value b is_digit in
@@ -47,6 +48,10 @@ digit-more text ds rest n m cut all same some is_digit e =
       all = digits_push 10 ds b all (omega arith);
       same = omega arith;
     }
+
+-- a number that is read exactly to 1,000,000 is read exactly to 65,535
+pub front_to : (text : List ℕ) (n : ℕ) (rest : List ℕ) → FrontTo 1000000 text n rest → Front text n rest
+front_to text n rest f = record { digits = f.digits; cut = f.cut; some = f.some; all = f.all; same = let e = f.same in omega arith }
 
 -- WRITING
 

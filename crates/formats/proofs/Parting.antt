@@ -4,7 +4,7 @@ use Rattle.std.specs.Str.Iter.{LacksByte}
 use Rattle.std.proofs.lemmas.List.{length-append}
 use Rattle.std.proofs.lemmas.Bool.{ne_eqb, eq-eqb, cond-true, cond-false, cases_eq}
 use Rattle.formats.specs.Text.{onto_front, parted, onto_first, lines_of}
-use Rattle.formats.specs.Internal.{Ends}
+use Rattle.formats.specs.Number.{Ends}
 
 lacks_tail : (mark b : ℕ) (xs : List ℕ) → LacksByte mark (b ∷ xs) → LacksByte mark xs
 lacks_tail mark b xs h k lt e = h (suc k) (suc-le-suc lt) e

@@ -6,7 +6,7 @@ use Rattle.samples.specs.Answer.{number_of, place_of}
 use Rattle.samples.specs.Runs.{samples_of, rolled, Minimal}
 use Rattle.formats.specs.declared.failure.Failure.{Failure}
 use Rattle.formats.specs.declared.failure.Failure.TheVariants.{Memory, Refused}
-use Rattle.formats.specs.Text.{text_of, runs_in}
+use Rattle.formats.specs.Text.{text_of, runs_in, runs_from}
 
 abbrev pub samples_given : Result (List Run) (ℕ × ℕ) → Result (List ℕ) (ℕ × ℕ)
 samples_given (Ok rs) = Ok (samples_of rs)
@@ -33,3 +33,12 @@ pub record Compacts (text out : List ℕ) : Type 0 where
   pub written : out ≡ text_of (rolled samples)
   pub minimal : Minimal samples (rolled samples)
   pub same : samples_in out ≡ samples_in text
+
+-- BELOW OTHER LINES: the same of a text whose first line is line n
+
+abbrev pub samples_from : ℕ → List ℕ → Result (List ℕ) (ℕ × ℕ)
+samples_from n bs = samples_given (runs_from n bs)
+
+abbrev pub FailsFrom : ℕ → Failure → List ℕ → Type 0
+FailsFrom n Memory bs = (rs : List Run) × (runs_from n bs ≡ Ok rs) × (1 ≤ length rs)
+FailsFrom n (Refused f) bs = samples_from n bs ≡ Err (number_of f, place_of f)

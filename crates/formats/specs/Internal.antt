@@ -1,16 +1,11 @@
 -- For the contracts of functions that are private to the crate: what is read at the front of a text, and what is written of a number. Assumes nothing: these are definitions.
 use Rattle.std.specs.Prelude.{◌≡◌, ℕ, ◌+◌, ◌%◌, ◌<◌, ◌≤◌, min, cond, List, [], ◌∷◌, ◌++◌, length, Some, None, Ok, Err, Option, Result, nat_lt}
 use Rattle.std.specs.Str.Parse.{digits_value, AllDigits}
-use Rattle.std.specs.Int.{IsInRange}
 use Rattle.samples.specs.declared.answer.Refusal.{Refusal}
 use Rattle.samples.specs.declared.run.Run.{Run}
 use Rattle.samples.specs.Answer.{number_of, place_of}
 use Rattle.formats.specs.Text.{lines_of, run_in, onto, reading_from}
-
--- a text that begins with no digit
-abbrev pub NoDigit : List ℕ → Type 0
-NoDigit [] = Unit {0}
-NoDigit (b ∷ bs) = IsInRange 48 57 b → ⊥
+use Rattle.formats.specs.Number.{Ends}
 
 -- one digit or more at the front of a text write the number n, or both are above 65,535; `rest` follows them
 pub record Front (text : List ℕ) (n : ℕ) (rest : List ℕ) : Type 0 where
@@ -19,11 +14,6 @@ pub record Front (text : List ℕ) (n : ℕ) (rest : List ℕ) : Type 0 where
   pub some : 0 < length digits
   pub all : AllDigits 10 digits
   pub same : min n 65536 ≡ min (digits_value 10 digits) 65536
-
--- a line ends here, with a newline or with the text, and `after` follows
-abbrev pub Ends : List ℕ → List ℕ → Type 0
-Ends [] after = after ≡ []
-Ends (b ∷ bs) after = (b ≡ 10) × (bs ≡ after)
 
 -- the first line of a text is the numbers s and c with one space between, and `after` follows that line
 pub record TwoNumbers (text : List ℕ) (s c : ℕ) (after : List ℕ) : Type 0 where

@@ -1,4 +1,5 @@
 pub mod Capture
 pub mod Internal
 pub mod Message
+pub mod Number
 pub mod Text

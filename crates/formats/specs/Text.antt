@@ -81,6 +81,10 @@ reading_from n p (l ∷ ls) = next (run_in n p l) (λ r. reading_from (n + 1) (l
 abbrev pub runs_in : List ℕ → Result (List Run) (ℕ × ℕ)
 runs_in bs = reading_from 0 0 (lines_of bs)
 
+-- the same of a text below other lines, its first being line n
+abbrev pub runs_from : ℕ → List ℕ → Result (List Run) (ℕ × ℕ)
+runs_from n bs = reading_from n 0 (lines_of bs)
+
 -- ROUND TRIP
 
 -- samples of sixteen bits

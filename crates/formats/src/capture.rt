@@ -1,7 +1,7 @@
 //! Whole captures.
-ghost use Rattle.std.specs.Prelude.{◌≡◌, Ok as Good, MatchResult};
+ghost use Rattle.std.specs.Prelude.{◌≡◌, ◌+◌, ◌^◌, ◌<◌, length, Ok as Good, MatchResult};
 ghost use Rattle.samples.specs.Runs.{samples_of};
-ghost use Rattle.formats.specs.Capture.{samples_in, Fails, Writes, Compacts};
+ghost use Rattle.formats.specs.Capture.{samples_in, samples_from, Fails, FailsFrom, Writes, Compacts};
 
 use crate::cursor::Lines;
 use crate::failure::Failure;
@@ -13,7 +13,22 @@ use std::alloc::{AllocError, Global};
 pub fn read_capture(heap: Global, text: &[u8]) -> Result<Runs, Failure>
     ensures { MatchResult result (λ runs. samples_in text.now ≡ Good (samples_of runs.list.items)) (λ e. Fails e text.now) }
 {
-    let mut lines = Lines::new(text);
+    read_from(heap, 0, text)
+}
+
+/// As `read_capture`, of a text below a header, which is line 0.
+pub fn read_capture_below(heap: Global, text: &[u8]) -> Result<Runs, Failure>
+    ensures { MatchResult result (λ runs. samples_from 1 text.now ≡ Good (samples_of runs.list.items)) (λ e. FailsFrom 1 e text.now) }
+{
+    read_from(heap, 1, text)
+}
+
+/// As `read_capture`, of a text whose first line is line `line`.
+fn read_from(heap: Global, line: u64, text: &[u8]) -> Result<Runs, Failure>
+    requires { line + length text.now < 2 ^ 64 }
+    ensures { MatchResult result (λ runs. samples_from line text.now ≡ Good (samples_of runs.list.items)) (λ e. FailsFrom line e text.now) }
+{
+    let mut lines = Lines::from_line(line, text);
     let mut runs = Runs::new(heap);
     while let Some(run) = lines.next_run()? {
         if runs.push(run).is_err() {

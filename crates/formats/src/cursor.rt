@@ -18,9 +18,16 @@ impl<'a> Lines<'a> {
     pub(crate) fn new(text: &'a [u8]) -> Lines<'a>
         ensures { (result.rest.now ≡ text.now) × (result.line ≡ 0) × (result.place ≡ 0) }
     {
+        Lines::from_line(0, text)
+    }
+
+    /// All lines of a text, the first of which is line `line`.
+    pub(crate) fn from_line(line: u64, text: &'a [u8]) -> Lines<'a>
+        ensures { (result.rest.now ≡ text.now) × (result.line ≡ line) × (result.place ≡ 0) }
+    {
         Lines {
             rest: text,
-            line: 0,
+            line,
             place: 0,
         }
     }

@@ -2,6 +2,7 @@
 ghost use Rattle.std.specs.Prelude.{◌≡◌, ℕ, ◌+◌, ◌<◌, ◌≤◌, List, [], ◌∷◌, ◌++◌, length, Ok as Good, Err as Bad, vec_len, vec_capacity, MatchOption, MatchResult};
 ghost use Rattle.samples.specs.Answer.{number_of, place_of};
 ghost use Rattle.formats.specs.Text.{line_of};
+ghost use Rattle.formats.specs.Number.{Ends};
 ghost use Rattle.formats.specs.Internal.{TwoNumbers, NoTwoNumbers, FirstLine};
 
 use crate::number::{put_number, read_number};
@@ -19,6 +20,17 @@ fn two_numbers(text: &[u8]) -> Option<(u32, u32, &[u8])>
     match rest {
         [] => Some((sample, count, rest)),
         [b'\n', after @ ..] => Some((sample, count, after)),
+        _ => None,
+    }
+}
+
+/// What follows where a line ends here, at a newline or at the end of the text; nothing where it goes on.
+pub fn end_line(rest: &[u8]) -> Option<&[u8]>
+    ensures { MatchOption result ((after : List ℕ) → Ends rest.now after → ⊥) (λ after. Ends rest.now after.now) }
+{
+    match rest {
+        [] => Some(rest),
+        [b'\n', after @ ..] => Some(after),
         _ => None,
     }
 }

@@ -1,10 +1,14 @@
 //! Decimal numbers in a text.
 ghost use Rattle.std.specs.Prelude.{◌≡◌, ◌+◌, ◌<◌, ◌≤◌, ◌++◌, vec_len, vec_capacity, decimal, MatchOption};
-ghost use Rattle.formats.specs.Internal.{NoDigit, Front, last_digit};
+ghost use Rattle.formats.specs.Internal.{last_digit};
+ghost use Rattle.formats.specs.Number.{NoDigit, FrontTo};
 
-/// The number that the digits at the front of a text write, or one above 65,535 where it is larger, and what follows them; nothing where there is no digit.
-pub(crate) fn read_number(text: &[u8]) -> Option<(u32, &[u8])>
-    ensures { MatchOption result (NoDigit text.now) (λ p. Front text.now p.0 p.1.now × NoDigit p.1.now) }
+/// The largest number that is read exactly.
+const EXACT: u32 = 1_000_000;
+
+/// The number that the digits at the front of a text write, or one above 1,000,000 where it is larger, and what follows them; nothing where there is no digit.
+pub fn read_number(text: &[u8]) -> Option<(u32, &[u8])>
+    ensures { MatchOption result (NoDigit text.now) (λ p. FrontTo 1000000 text.now p.0 p.1.now × NoDigit p.1.now) }
 {
     let [digit @ b'0'..=b'9', rest @ ..] = text else {
         return None;
@@ -13,7 +17,7 @@ pub(crate) fn read_number(text: &[u8]) -> Option<(u32, &[u8])>
     let mut rest = rest;
     while let [digit @ b'0'..=b'9', after @ ..] = rest {
         // A larger number stays as it is, so that it fits.
-        if number <= 65535 {
+        if number <= EXACT {
             number = number * 10 + u32::from(*digit - b'0');
         }
         rest = after;

@@ -1,5 +1,6 @@
 use Rattle.std.proofs.Common.{◌-◌, ◌∷◌, length, take, drop, rules}
 use Rattle.formats.specs.Internal.{Front}
+use Rattle.formats.proofs.Numbers.{front_to}
 use Rattle.formats.proofs.Lines.{no_sample, no_space, no_count, no_end, front_at, ends_text, ends_newline}
 use Rattle.formats.proofs.line.two_numbers.Goals as goal
 use Rattle.formats.proofs.line.two_numbers.Goals.{In-32}
@@ -9,7 +10,7 @@ spaced :
     (c : In-32) →
     Front c.args.text.now c.in_ok-sample.sample (32 ∷ take (length c.in_ok-sample.rest.now - 1) (drop 1 c.in_ok-sample.rest.now))
 spaced c =
-    front_at c.args.text.now c.in_ok-sample.rest.now c.in_ok-sample.sample 32 c.in_ok-sample.ensures.0 (search rules) (search rules)
+    front_at c.args.text.now c.in_ok-sample.rest.now c.in_ok-sample.sample 32 (front_to _ _ _ c.in_ok-sample.ensures.0) (search rules) (search rules)
 
 pub returns-in_err-sample : goal.returns-in_err-sample
 returns-in_err-sample c = rw c.from_residual.ensures (no_sample c.args.text.now c.in_err-sample.ensures)
@@ -17,7 +18,7 @@ returns-in_err-sample c = rw c.from_residual.ensures (no_sample c.args.text.now 
 pub returns-in_default : goal.returns-in_default
 returns-in_default c =
     let read = c.in_ok-sample.ensures in
-    no_space c.args.text.now c.in_ok-sample.rest.now c.in_ok-sample.sample read.0 read.1 (λ some is. search rules)
+    no_space c.args.text.now c.in_ok-sample.rest.now c.in_ok-sample.sample (front_to _ _ _ read.0) read.1 (λ some is. search rules)
 
 pub returns-in_err-count : goal.returns-in_err-count
 returns-in_err-count c =
@@ -30,7 +31,7 @@ returns-in-empty c =
       rest = _;
       end = c.in_ok-count.rest.now;
       sample = spaced (goal.at.returns-in-empty c).In-32;
-      count = c.in_ok-count.ensures.0;
+      count = front_to _ _ _ c.in_ok-count.ensures.0;
       ends = ends_text c.in_ok-count.rest.now (search rules);
     }
 
@@ -40,7 +41,7 @@ returns-in-10 c =
       rest = _;
       end = c.in_ok-count.rest.now;
       sample = spaced (goal.at.returns-in-10 c).In-32;
-      count = c.in_ok-count.ensures.0;
+      count = front_to _ _ _ c.in_ok-count.ensures.0;
       ends = ends_newline c.in_ok-count.rest.now (search rules) (search rules);
     }
 
@@ -48,4 +49,4 @@ pub returns-in_default-rest : goal.returns-in_default-rest
 returns-in_default-rest c =
     let read = c.in_ok-count.ensures in
     no_end c.args.text.now _ c.in_ok-count.rest.now c.in_ok-sample.sample c.in_ok-count.count
-    (spaced (goal.at.returns-in_default-rest c).In-32) read.0 read.1 (search rules) (search rules)
+    (spaced (goal.at.returns-in_default-rest c).In-32) (front_to _ _ _ read.0) read.1 (search rules) (search rules)

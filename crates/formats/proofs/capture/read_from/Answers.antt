@@ -1,9 +1,9 @@
 use Rattle.std.proofs.Common.{[], ◌∷◌, ◌++◌, replicate, Some, Ok, vec_items, arith}
 use Rattle.formats.specs.Internal.{Next}
-use Rattle.formats.specs.Text.{lines_of, reading_from, runs_in}
+use Rattle.formats.specs.Text.{lines_of, reading_from, runs_from}
 use Rattle.formats.proofs.Captures.{next-some, read_more, kept_more, pushed-on, rest-checked}
-use Rattle.formats.proofs.capture.read_capture.Goals as goal
-use Rattle.formats.proofs.capture.read_capture.Goals.{In-Some}
+use Rattle.formats.proofs.capture.read_from.Goals as goal
+use Rattle.formats.proofs.capture.read_from.Goals.{In-Some}
 
 one-run :
     (c : In-Some) →
@@ -20,7 +20,7 @@ loop-runs-preserved c =
       (
         rs ++ (r ∷ []),
         kept_more (vec_items c.loop-runs.runs.list) (vec_items c.push.new.self.list) rs r c.loop-runs.invariant.0.1 pushed,
-        read_more (runs_in c.args.text.now) _ (reading_from after.line after.place (lines_of after.rest.now)) rs r c.loop-runs.invariant.0.2 on.0,
+        read_more (runs_from c.args.line c.args.text.now) _ (reading_from after.line after.place (lines_of after.rest.now)) rs r c.loop-runs.invariant.0.2 on.0,
       ),
       omega (arith, on.1, c.loop-runs.invariant.1),
     )
@@ -29,4 +29,4 @@ pub returns-then-is_err : goal.returns-then-is_err
 returns-then-is_err c =
     let on = one-run (goal.at.returns-then-is_err c).In-Some in
     let checked = c.in_ok-check_rest.ensures in
-    rest-checked (runs_in c.args.text.now) _ _ c.loop-runs.invariant.0.0 checked.0 c.in-Some.run' c.loop-runs.invariant.0.2 on.0 checked.1
+    rest-checked (runs_from c.args.line c.args.text.now) _ _ c.loop-runs.invariant.0.0 checked.0 c.in-Some.run' c.loop-runs.invariant.0.2 on.0 checked.1
