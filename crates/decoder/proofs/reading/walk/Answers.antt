@@ -4,7 +4,7 @@ use Rattle.decoder.specs.Machine.{run, before, outputs}
 use Rattle.decoder.proofs.Cut.{run_more, run-all, outputs-more, outputs-all}
 use Rattle.decoder.proofs.Written.{next_fits, filling-more, filling_all}
 use Rattle.decoder.proofs.reading.walk.Goals as goal
-use Rattle.decoder.proofs.reading.walk.Goals.{in-Some, in-default, then-width-room, else-width-room}
+use Rattle.decoder.proofs.reading.walk.Goals.{in-Some, in_default, then-width-room, else-width-room}
 
 pub loop-sample-preserved : goal.loop-sample-preserved
 loop-sample-preserved g c =
@@ -51,8 +51,8 @@ loop-sample-preserved g c =
                   absurd (omega (arith, next, wide, c.width-width.ensures, v.if-width-room.false)),
             )
           ]
-      | in-default w ↦
-          let none : outputs m.step m.emit s (drop i xs) ≡ os = more ∙ ap (λ o. before o os) w.in-default.is in (
+      | in_default w ↦
+          let none : outputs m.step m.emit s (drop i xs) ≡ os = more ∙ ap (λ o. before o os) w.in_default.is in (
             sound,
             omega (arith, w.many-is, inv.1),
             omega (arith, w.at-is, c.match-output.auto.room, c.loop-sample.auto.room, inv.2),
