@@ -6,7 +6,7 @@ use Rattle.uart.proofs.entry.serial.Goals as goal
 pub returns-in-Ok : goal.returns-in-Ok
 returns-in-Ok c =
     let made = c.in-Ok.ensures in
-    let called = c.read-on.ensures in
+    let called = c.read_on.ensures in
     let all = passed_on c.args.d c.args.k c.in-Ok.reader c.args.samples.now c.args.memory.now c.args.room.now made.0 made.1 in
     let a = called.answer ∙ ap (λ (x : After). x.answer) all in
     let m = called.memory ∙ ap (λ (x : After). x.memory) all in

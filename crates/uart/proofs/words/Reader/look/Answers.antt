@@ -15,6 +15,6 @@ returns-in-1-to-8 c =
     let whole : (c.from.result * 2 ^ (r.next - 1)) % 256 ≡ digit x * 2 ^ (r.next - 1) =
     rw (c.from.ensures, byte_is_digit x) (shl_whole (digit x) 1 (r.next - 1) 8 (omega (arith, digit_small x)) (omega arith)) in
     record {
-      next = c.wait-for-look-in-1-to-8.ensures ∙ rw (whole, ne_eqb r.next 0 (λ e. omega (arith, e)), le-leb r.next 8 high);
+      next = c.wait_for_look-in-1-to-8.ensures ∙ rw (whole, ne_eqb r.next 0 (λ e. omega (arith, e)), le-leb r.next 8 high);
       read = rw (le-leb r.next 8 high);
     }
