@@ -1,5 +1,6 @@
 pub mod Decoder
 pub mod Examples
+pub mod Memory
 pub mod Rule
 pub mod Sound
 pub mod Stream

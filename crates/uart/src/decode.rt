@@ -1,8 +1,8 @@
 //! The reader, sample by sample.
 ghost use Rattle.std.specs.Prelude.{◌≡◌, Some as Found, None as Fine, MatchResult};
 ghost use Rattle.uart.specs.Decoder.{idle, under_way, looked, word_at, step, emit, encoded, saved, restored, fresh, setting_at_fault};
+ghost use Rattle.uart.specs.Memory.{length-encoded, opened, restored-saved, restored-step};
 ghost use Rattle.uart.specs.Sound.{Sound, step-sound};
-ghost use Rattle.std.proofs.Common.{rules};
 
 use crate::words::{Reader, Word};
 use decoder::{Decoder, Machine};
@@ -120,13 +120,13 @@ impl Decoder for Reader {
 
     ghost restored = { restored };
 
-    ghost sized = { Prim.search rules };
+    ghost sized = { length-encoded };
 
-    ghost opens = { Prim.search rules };
+    ghost opens = { opened };
 
-    ghost back = { Prim.search rules };
+    ghost back = { restored-saved };
 
-    ghost same = { Prim.search rules };
+    ghost same = { restored-step };
 
     fn width() -> usize {
         2
