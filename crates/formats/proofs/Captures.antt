@@ -9,8 +9,8 @@ use Rattle.samples.specs.Stream.{extended, Extends}
 use Rattle.samples.proofs.Rolled.{rolled-gives}
 use Rattle.formats.specs.declared.failure.Failure.{Failure}
 use Rattle.formats.specs.declared.failure.Failure.TheVariants.{Memory}
-use Rattle.formats.specs.Text.{runs_in, onto}
-use Rattle.formats.specs.Capture.{samples_given, samples_in, Fails}
+use Rattle.formats.specs.Text.{runs_from, onto}
+use Rattle.formats.specs.Capture.{samples_given, samples_in, samples_from, Fails, FailsFrom}
 use Rattle.formats.specs.Internal.{Next}
 
 samples_append : (rs : List Run) (r : Run) → samples_of (rs ++ (r ∷ [])) ≡ samples_of rs ++ replicate r.count r.sample
@@ -70,5 +70,8 @@ some_runs (Ok (r ∷ rs)) ss e some = (r ∷ rs, refl, omega arith)
 some_runs (Err f) ss e some = let z : ◌≡◌ {A = ℕ} 0 1 = cc in absurd (omega arith)
 
 -- a text that stands for the samples of some runs has runs
+pub text_some_from : (n : ℕ) (text : List ℕ) (rs : List Run) → samples_from n text ≡ Ok (samples_of rs) → WellFormed rs → 1 ≤ length rs → FailsFrom n Memory text
+text_some_from n text rs e formed some = some_runs (runs_from n text) (samples_of rs) e (some_samples rs formed some)
+
 pub text_some : (text : List ℕ) (rs : List Run) → samples_in text ≡ Ok (samples_of rs) → WellFormed rs → 1 ≤ length rs → Fails Memory text
-text_some text rs e formed some = some_runs (runs_in text) (samples_of rs) e (some_samples rs formed some)
+text_some text rs e formed some = text_some_from 0 text rs e formed some

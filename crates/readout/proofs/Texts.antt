@@ -14,7 +14,7 @@ use Rattle.uart.proofs.Waves.{waves_are_read}
 use Rattle.formats.specs.declared.failure.Failure.{Failure}
 use Rattle.formats.specs.declared.failure.Failure.TheVariants.{Memory}
 use Rattle.formats.specs.Capture.{samples_from}
-use Rattle.formats.proofs.Captures.{text_some}
+use Rattle.formats.proofs.Captures.{text_some_from}
 use Rattle.readout.specs.declared.header.Settings.{Settings}
 use Rattle.readout.specs.declared.header.Settings.TheVariants.{Serial}
 use Rattle.readout.specs.Decode.{DecodesSerial, FailsSerial, DecodesBy, ListingIsOne}
@@ -32,7 +32,7 @@ pub memory-wants :
     samples_from 1 after ≡ Ok (samples_of rs) → WellFormed rs → 1 ≤ length (outputs_at step emit 0 s (samples_of rs)) → MatchResult r P (λ f. FailsSerial f k d after)
 memory-wants P k d after s rs r e err memory fine given formed some =
     subst (λ q. MatchResult q P (λ f. FailsSerial f k d after)) (sym err)
-    (subst (λ f. FailsSerial f k d after) (sym memory) (in_range d k fine, text_some 1 after rs given formed (some_runs s rs some)))
+    (subst (λ f. FailsSerial f k d after) (sym memory) (in_range d k fine, text_some_from 1 after rs given formed (some_runs s rs some)))
 
 -- the words of a stream that are complete by the end of its beginning
 begun-is :

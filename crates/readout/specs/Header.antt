@@ -1,6 +1,6 @@
 -- The header line of a text. Assumes nothing: these are definitions.
 use Rattle.std.specs.Prelude.{◌≡◌, ℕ, List, ◌++◌, codes}
-use Rattle.formats.specs.Number.{Front, Ends}
+use Rattle.formats.specs.Number.{FrontTo, Ends}
 use Rattle.readout.specs.declared.header.Settings.{Settings}
 use Rattle.readout.specs.declared.header.Settings.TheVariants.{Serial}
 
@@ -10,8 +10,8 @@ pub record SerialHeader (text : List ℕ) (k d : ℕ) (after : List ℕ) : Type 
   pub more : List ℕ
   pub end : List ℕ
   pub begins : text ≡ codes "serial line " ++ rest
-  pub line : Front rest k (codes " bit " ++ more)
-  pub bit : Front more d end
+  pub line : FrontTo 1000000 rest k (codes " bit " ++ more)
+  pub bit : FrontTo 1000000 more d end
   pub ends : Ends end after
 
 -- the text begins with the header line of the settings, and `after` follows it

@@ -4,7 +4,7 @@ ghost use Rattle.readout.specs.Decode.{Decodes, DecodeFails, DecodesSerial, Fail
 
 use crate::header::{Settings, read_header};
 use crate::listing::list;
-use formats::{Failure, read_capture_from};
+use formats::{Failure, read_capture_below};
 use samples::Refusal;
 use std::alloc::Global;
 use uart::Reader;
@@ -26,6 +26,6 @@ fn decode_serial(heap: Global, line: u32, bit: u32, lines: &[u8]) -> Result<Stri
     ensures { MatchResult result (λ out. DecodesSerial line bit lines.now (string_bytes out)) (λ e. FailsSerial e line bit lines.now) }
 {
     let reader = Reader::new(u64::from(bit), u64::from(line))?;
-    let runs = read_capture_from(heap, 1, lines)?;
+    let runs = read_capture_below(heap, lines)?;
     Ok(list(heap, reader, runs.as_slice())?)
 }
