@@ -1,6 +1,6 @@
 //! Captures as text.
 use crate::random::Random;
-use formats::{Failure, compact, read_capture, write_capture};
+use formats::{Failure, compact, read_capture, read_capture_below, write_capture};
 use samples::{Refusal, Run, Runs};
 use std::alloc::{AllocError, Global};
 use std::test::Fail;
@@ -45,16 +45,9 @@ fn runs_are_written_and_read_back(rt: HostRuntime) -> Result<(), Fail> {
     assert!(rt;
         text.as_slice() == b"0 1\n9 10\n99 100\n999 1000\n9999 10000\n65535 65535\n".as_slice()
     );
-    match read_capture(heap, text.as_slice()) {
-        Ok(back) => {
-            assert!(rt; back.as_slice() == runs.as_slice());
-            Ok(())
-        },
-        Err(_) => {
-            assert!(rt; false);
-            Ok(())
-        },
-    }
+    let back = read_capture(heap, text.as_slice())?;
+    assert!(rt; back.as_slice() == runs.as_slice());
+    Ok(())
 }
 
 /// Whether a text is refused so.
@@ -104,6 +97,15 @@ fn lines_that_are_none_are_refused(rt: HostRuntime) -> Result<(), Fail> {
 }
 
 #[test]
+fn lines_below_a_header_are_counted_from_1(rt: HostRuntime) {
+    let heap = rt.alloc();
+    match read_capture_below(heap, b"7 3\nx\n") {
+        Ok(_) => assert!(rt; false),
+        Err(failure) => assert_eq!(rt; failure, Failure::Refused(Refusal::Text(2))),
+    }
+}
+
+#[test]
 fn samples_above_65535_are_refused_by_their_place(rt: HostRuntime) {
     let heap = rt.alloc();
     assert!(rt; refuses(heap, b"65536 1", Refusal::Samples(0)));
@@ -125,6 +127,8 @@ fn failures_say_number_place_and_meaning(rt: HostRuntime) -> Result<(), Fail> {
         text.as_str()
             == "refused 5 at 3: this line is not SAMPLE COUNT with a count of 1 to 65535; the first is line 0"
     );
+    let longest = Failure::Refused(Refusal::Text(u64::MAX)).to_string(heap)?;
+    assert!(rt; longest.as_str().len() <= 120);
     let sample = Failure::Refused(Refusal::Samples(70)).to_string(heap)?;
     assert!(rt;
         sample.as_str() == "refused 3 at 70: this sample is above 65535; the first is sample 0"
