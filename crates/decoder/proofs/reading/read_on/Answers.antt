@@ -11,9 +11,8 @@ has_room-requires g c = (g.met.D.Decoder.opens _ _ _ c.requires (sym c.in-Ok.ens
 pub walk-reader-requires : goal.walk-reader-requires
 walk-reader-requires g c = (g.met.D.Decoder.opens _ _ _ c.requires (sym c.in-Ok.ensures)).0
 
-pub save-requires : goal.save-requires
-save-requires g c =
-    record { sound = c.walk-reader.ensures.sound; long = (g.met.D.Decoder.opens _ _ _ c.requires (sym c.in-Ok.ensures)).1 }
+pub save-requires-clause-long : goal.save-requires-clause-long
+save-requires-clause-long g c = (g.met.D.Decoder.opens _ _ _ c.requires (sym c.in-Ok.ensures)).1
 
 pub returns : goal.returns
 returns g c =
