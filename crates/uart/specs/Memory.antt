@@ -49,7 +49,7 @@ restored-saved s h =
 -- WHAT IS RESTORED IS SOUND
 
 -- it also has the settings that were asked for
-abbrev pub Opened : (s t : Reader) (m : List ℕ) → Type 0
+abbrev Opened : (s t : Reader) (m : List ℕ) → Type 0
 Opened s t m = Sound t × (length m ≡ 5) × ((n : List ℕ) → restored t n ≡ restored s n)
 
 not_err : {X : Type 0} (t : Reader) (place : ℕ) → ◌≡◌ {A = Result Reader ℕ} (Err place) (Ok t) → X
@@ -75,8 +75,7 @@ opened s t m h =
     (λ next.
     cond_both (nat_le (2 ^ (slice_index m 3 - 1)) (slice_index m 4)) _ _ Opens (λ _. not_err t 4)
     (λ bits.
-    opened-in s t m
-    (
+    opened-in s t m (
       record {
         bit_low = h.bit_low;
         bit_high = h.bit_high;
