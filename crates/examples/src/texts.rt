@@ -120,6 +120,13 @@ fn samples_above_65535_are_refused_by_their_place(rt: HostRuntime) {
 }
 
 #[test]
+fn the_longest_failure_has_120_bytes_at_most(rt: HostRuntime) -> Result<(), Fail> {
+    let longest = Failure::Refused(Refusal::Text(u64::MAX)).to_string(rt.alloc())?;
+    assert!(rt; longest.as_str().len() <= 120);
+    Ok(())
+}
+
+#[test]
 fn failures_say_number_place_and_meaning(rt: HostRuntime) -> Result<(), Fail> {
     let heap = rt.alloc();
     let text = Failure::Refused(Refusal::Text(3)).to_string(heap)?;
@@ -127,8 +134,6 @@ fn failures_say_number_place_and_meaning(rt: HostRuntime) -> Result<(), Fail> {
         text.as_str()
             == "refused 5 at 3: this line is not SAMPLE COUNT with a count of 1 to 65535; the first is line 0"
     );
-    let longest = Failure::Refused(Refusal::Text(u64::MAX)).to_string(heap)?;
-    assert!(rt; longest.as_str().len() <= 120);
     let sample = Failure::Refused(Refusal::Samples(70)).to_string(heap)?;
     assert!(rt;
         sample.as_str() == "refused 3 at 70: this sample is above 65535; the first is sample 0"
