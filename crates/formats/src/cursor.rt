@@ -18,7 +18,11 @@ impl<'a> Lines<'a> {
     pub(crate) fn new(text: &'a [u8]) -> Lines<'a>
         ensures { (result.rest.now ≡ text.now) × (result.line ≡ 0) × (result.place ≡ 0) }
     {
-        Lines::from_line(0, text)
+        Lines {
+            rest: text,
+            line: 0,
+            place: 0,
+        }
     }
 
     /// All lines of a text, the first of which is line `line`.
@@ -26,9 +30,8 @@ impl<'a> Lines<'a> {
         ensures { (result.rest.now ≡ text.now) × (result.line ≡ line) × (result.place ≡ 0) }
     {
         Lines {
-            rest: text,
             line,
-            place: 0,
+            ..Lines::new(text)
         }
     }
 

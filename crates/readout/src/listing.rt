@@ -24,10 +24,7 @@ impl Listed for Reader {
     ghost words = { word_text };
 
     fn put_words(word: Word, out: &mut String) -> Result<(), AllocError> {
-        match write!(out, "{word}") {
-            Ok(()) => Ok(()),
-            Err(_) => Err(AllocError),
-        }
+        write!(out, "{word}")
     }
 }
 
@@ -36,10 +33,7 @@ fn put_line<D: Listed>(output: D::Output, place: u128, out: &mut String) -> Resu
     ensures { OnOk result (string_bytes out.new ≡ string_bytes out.old ++ line_at D.Listed.words (place, output)) }
 {
     D::put_words(output, out)?;
-    match writeln!(out, " at {place}") {
-        Ok(()) => Ok(()),
-        Err(_) => Err(AllocError),
-    }
+    writeln!(out, " at {place}")
 }
 
 /// Lists what is read of a run whose first sample is at a place; the reader comes back.
