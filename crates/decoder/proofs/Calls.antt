@@ -13,22 +13,22 @@ use Rattle.decoder.specs.Reading.{After, refused, numbers_read, read_all, read_f
 use Rattle.decoder.proofs.Cut.{run-append, outputs-append, joined-append, length-joined}
 
 module _ {S O : Type 0} (step : S → ℕ → S) (emit : S → ℕ → Option O) (encoded : O → List ℕ) (saved : S → List ℕ) (samples memory room : List ℕ) where
-  from-reader :
+  from_reader :
       (t : Result S ℕ) (s : S) → t ≡ Ok s → length samples ≤ 65535 →
       reading step emit encoded saved t samples memory room ≡ read_from step emit encoded saved s samples memory room
-  from-reader t s e h = rw (e, le-leb (length samples) 65535 h)
+  from_reader t s e h = rw (e, le-leb (length samples) 65535 h)
 
   -- all is read
   pub reads :
       (t : Result S ℕ) (s : S) → t ≡ Ok s → length samples ≤ 65535 → leb (length (numbers_read step emit encoded s samples)) (length room) ≡ true →
       reading step emit encoded saved t samples memory room ≡ read_all step emit encoded saved s samples room
-  reads t s e h fits = from-reader t s e h ∙ cond-true _ _ _ fits
+  reads t s e h fits = from_reader t s e h ∙ cond-true _ _ _ fits
 
   -- the room is too little
-  pub lacks-room :
+  pub lacks_room :
       (t : Result S ℕ) (s : S) → t ≡ Ok s → length samples ≤ 65535 → leb (length (numbers_read step emit encoded s samples)) (length room) ≡ false →
       reading step emit encoded saved t samples memory room ≡ refused (Room (length room)) memory room
-  lacks-room t s e h short = from-reader t s e h ∙ cond-false _ _ _ short
+  lacks_room t s e h short = from_reader t s e h ∙ cond-false _ _ _ short
 
   -- where a memory was restored, all is read, or the room is too little, or the samples are too many
   cases :
@@ -40,7 +40,7 @@ module _ {S O : Type 0} (step : S → ℕ → S) (emit : S → ℕ → Option O)
       ⊎_elim
       (λ few.
       let most = leb-true (length samples) 65535 few in
-      ⊎_elim (λ fits. inl (most, leb-true (length (numbers_read step emit encoded s samples)) (length room) fits, reads t s is most fits)) (λ short. inr (inl (lacks-room t s is most short)))
+      ⊎_elim (λ fits. inl (most, leb-true (length (numbers_read step emit encoded s samples)) (length room) fits, reads t s is most fits)) (λ short. inr (inl (lacks_room t s is most short)))
       (cases_Bool (leb (length (numbers_read step emit encoded s samples)) (length room))))
       (λ many. inr (inr (ap (λ q. reading step emit encoded saved q samples memory room) is ∙ cond-false _ _ _ many))) (cases_Bool (leb (length samples) 65535))
 
@@ -86,9 +86,9 @@ module _ {S : Type 0} (sound : S → Type 0) (step : S → ℕ → S) (restored 
   run_sound s [] h = h
   run_sound s (x ∷ xs) h = run_sound (step s x) xs (keeps s x h)
 
-  run-same : (s : S) (xs m : List ℕ) → restored (run step s xs) m ≡ restored s m
-  run-same s [] m = refl
-  run-same s (x ∷ xs) m = run-same (step s x) xs m ∙ same s x m
+  run_same : (s : S) (xs m : List ℕ) → restored (run step s xs) m ≡ restored s m
+  run_same s [] m = refl
+  run_same s (x ∷ xs) m = run_same (step s x) xs m ∙ same s x m
 
   module _ (size : ℕ) (saved : S → List ℕ)
       (opens : (s t : S) (m : List ℕ) → sound s → restored s m ≡ Ok t → sound t × (length m ≡ size) × ((n : List ℕ) → restored t n ≡ restored s n))
@@ -98,7 +98,7 @@ module _ {S : Type 0} (sound : S → Type 0) (step : S → ℕ → S) (restored 
     goes_on settings s memory xs h e =
         let opened = opens settings s memory h e in
         let left = saved (run step s xs) in
-        sym (opened.2 left) ∙ sym (run-same s xs left) ∙ back (run step s xs) (run_sound s xs opened.0)
+        sym (opened.2 left) ∙ sym (run_same s xs left) ∙ back (run step s xs) (run_sound s xs opened.0)
 
 module _ {S O : Type 0} (sound : S → Type 0) (step : S → ℕ → S) (emit : S → ℕ → Option O) (encoded : O → List ℕ) (width : ℕ) (saved : S → List ℕ) (restored : S → List ℕ → Result S ℕ)
     (sized : (o : O) → length (encoded o) ≡ width)
@@ -111,12 +111,12 @@ module _ {S O : Type 0} (sound : S → Type 0) (step : S → ℕ → S) (emit : 
   given s xs room n e = take_at (numbers_read step emit encoded s xs) _ (n * width) (long s xs ∙ ap (λ k. k * width) (sym e))
 
   -- one call, where n and m outputs come of the two parts of its samples
-  joined-call :
+  joined_call :
       (s : S) (xs ys memory room left ns ms : List ℕ) (t : Result S ℕ) (n m : ℕ) → t ≡ Ok s → n ≡ length (outputs step emit s xs) →
       m ≡ length (outputs step emit (run step s xs) ys) → length (xs ++ ys) ≤ 65535 → (n + m) * width ≤ length room → left ≡ saved (run step (run step s xs) ys) →
       ns ≡ numbers_read step emit encoded s xs → ms ≡ numbers_read step emit encoded (run step s xs) ys →
       reading step emit encoded saved t (xs ++ ys) memory room ≡ record { answer = Read (n + m); memory = left; room = filled (ns ++ ms) room }
-  joined-call s xs ys memory room left ns ms t n m e en em few fits el ens ems =
+  joined_call s xs ys memory room left ns ms t n m e en em few fits el ens ems =
       let os = outputs-append step emit s xs ys in
       let many : length (outputs step emit s (xs ++ ys)) ≡ n + m =
       ap length os ∙ length-append (outputs step emit s xs) (outputs step emit (run step s xs) ys) ∙ omega (arith, en, em) in
@@ -130,16 +130,16 @@ module _ {S O : Type 0} (sound : S → Type 0) (step : S → ℕ → S) (emit : 
   called = call_with step emit encoded saved restored
 
   -- the memory that a call left
-  left-restores :
+  left_restores :
       (settings : S) (xs memory room : List ℕ) (n : ℕ) → sound settings → (first : (called settings xs memory room).answer ≡ Read n) →
       restored settings (called settings xs memory room).memory ≡ Ok (run step (has_read step emit encoded saved xs memory room (restored settings memory) n first).reader xs)
-  left-restores settings xs memory room n h first =
+  left_restores settings xs memory room n h first =
       let r = has_read step emit encoded saved xs memory room (restored settings memory) n first in
       ap (λ (a : After). restored settings a.memory) r.all ∙ on settings r.reader memory xs h r.restored
 
   left_is_taken_back : (settings : S) → sound settings → LeftIsTakenBack width (called settings)
   left_is_taken_back settings h xs ys memory room₁ room₂ n p first second =
-      not_memory step emit encoded saved ys (called settings xs memory room₁).memory room₂ _ _ p (left-restores settings xs memory room₁ n h first) second
+      not_memory step emit encoded saved ys (called settings xs memory room₁).memory room₂ _ _ p (left_restores settings xs memory room₁ n h first) second
 
   two_read_as_one : (settings : S) → sound settings → TwoReadAsOne width (called settings)
   two_read_as_one settings h xs ys memory room₁ room₂ room n m first second few fits =
@@ -147,9 +147,9 @@ module _ {S O : Type 0} (sound : S → Type 0) (step : S → ℕ → S) (emit : 
       let s = r1.reader in
       let memory₁ = (called settings xs memory room₁).memory in
       let r2 = has_read step emit encoded saved ys memory₁ room₂ (restored settings memory₁) m second in
-      let again = left-restores settings xs memory room₁ n h first in
+      let again = left_restores settings xs memory room₁ n h first in
       let is : r2.reader ≡ run step s xs = (let e = sym r2.restored ∙ again in cc) in
-      joined-call s xs ys memory room _ _ _ (restored settings memory) n m r1.restored r1.many (r2.many ∙ ap (λ r. length (outputs step emit r ys)) is) few fits
+      joined_call s xs ys memory room _ _ _ (restored settings memory) n m r1.restored r1.many (r2.many ∙ ap (λ r. length (outputs step emit r ys)) is) few fits
       (ap (λ (a : After). a.memory) r2.all ∙ ap (λ r. saved (run step r ys)) is)
       (ap (λ (a : After). take (n * width) a.room) r1.all ∙ given s xs room₁ n r1.many)
       (ap (λ (a : After). take (m * width) a.room) r2.all ∙ given r2.reader ys room₂ m r2.many ∙ ap (λ r. numbers_read step emit encoded r ys) is)

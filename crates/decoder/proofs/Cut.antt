@@ -39,15 +39,15 @@ module _ {S X O : Type 0} (step : S → X → S) (emit : S → X → Option O) w
   unplaced n s (x ∷ xs) =
       ap (before (emit s x)) (unplaced (n + 1) (step s x) xs) ∙ one_unplaced n (emit s x) (outputs_at step emit (n + 1) (step s x) xs)
 
-  pub placed-append :
+  pub placed_append :
       (n : ℕ) (s : S) (xs ys : List X) →
       outputs_at step emit n s (xs ++ ys) ≡ outputs_at step emit n s xs ++ outputs_at step emit (n + length xs) (run step s xs) ys
-  placed-append n s xs ys =
+  placed_append n s xs ys =
       outputs-append (counting step) (placing emit) (n, s) xs ys
       ∙ ap (λ c. outputs_at step emit n s xs ++ outputs (counting step) (placing emit) c ys) (counted n s xs)
 
   pub machine_is_cut : MachineIsCut step emit
-  machine_is_cut n s xs ys = (run-append step emit s xs ys, placed-append n s xs ys, unplaced n s xs)
+  machine_is_cut n s xs ys = (run-append step emit s xs ys, placed_append n s xs ys, unplaced n s xs)
 
 -- NUMBERS
 

@@ -15,10 +15,10 @@ pub record Filling (start all left room : List ℕ) (at : ℕ) : Type 0 where
 pub next_fits : (start all left room ns more : List ℕ) (at : ℕ) → length all ≤ length room → left ≡ ns ++ more → Filling start all left room at → length ns ≤ length room - at
 next_fits start all left room ns more at fits e f = omega (arith, f.long, ap length e, length-append ns more)
 
-pub filling-more :
+pub filling_more :
     (start all left room free ns more : List ℕ) (at : ℕ) → length all ≤ length room → left ≡ ns ++ more → Filling start all left room at →
     free ≡ filled ns (take (length room - at) (drop at room)) → Filling start all more (put_mid at (length room - at) room free) (at + length ns)
-filling-more start all left room free ns more at fits e f wrote =
+filling_more start all left room free ns more at fits e f wrote =
     let long = length-append ns more in
     let within : at + length ns ≤ length room = omega (arith, f.long, ap length e, long) in
     record {

@@ -8,13 +8,13 @@ use Rattle.samples.specs.declared.run.Run.{Run}
 use Rattle.samples.specs.Runs.{WellFormed}
 use Rattle.formats.specs.Text.{line_of, text_of, lines_of, run_in, run_of, onto, later, next, reading_from, SixteenBit, RoundTrip}
 use Rattle.formats.proofs.Parting.{lines_cut}
-use Rattle.formats.proofs.Lines.{lacks_newline, run-two}
+use Rattle.formats.proofs.Lines.{lacks_newline, run_two}
 
 line_back : (n p : ℕ) (r : Run) → 1 ≤ r.count → r.count ≤ 65535 → r.sample ≤ 65535 → run_in n p (line_of r) ≡ Ok r
 line_back n p r some most s =
     let sample = decimal_is_IsNumeral r.sample (omega arith) in
     let count = decimal_is_IsNumeral r.count (omega arith) in
-    run-two n p (decimal r.sample) (decimal r.count) sample.0.0 sample.0.1 count.0.0 count.0.1
+    run_two n p (decimal r.sample) (decimal r.count) sample.0.0 sample.0.1 count.0.0 count.0.1
     ∙ ap (λ v. run_of n p v (digits_value 10 (decimal r.count))) sample.1 ∙ ap (run_of n p r.sample) count.1 ∙ grind (arith, nat_tests)
 
 lines_back : (r : Run) (bs : List ℕ) → r.count ≤ 65535 → r.sample ≤ 65535 → lines_of (line_of r ++ (10 ∷ bs)) ≡ line_of r ∷ lines_of bs

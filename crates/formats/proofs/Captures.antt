@@ -33,31 +33,31 @@ kept_more kept is rs r same pushed =
     ∙ sym (samples_append rs r)
 
 -- what `next_run` says of a run
-pub next-some :
+pub next_some :
     (o : Option Run) (r : Run) (n p : ℕ) (rest : List ℕ) (n' p' : ℕ) (rest' : List ℕ) → o ≡ Some r → Next (Ok o) n p rest n' p' rest' → Next (Ok (Some r)) n p rest n' p' rest'
-next-some o r n p rest n' p' rest' e h = subst (λ q. Next (Ok q) n p rest n' p' rest') e h
+next_some o r n p rest n' p' rest' e h = subst (λ q. Next (Ok q) n p rest n' p' rest') e h
 
 -- MEMORY
 
 -- what `push` says where it does not fail
-pub pushed-on :
+pub pushed_on :
     {E : Type 0} (r : Result (Unit {0}) E) (before after : Vec Run Global) (piece : List ℕ) → false ≡ is_err r → Extends r before piece after →
     vec_items after ≡ extended (vec_items before) piece
-pushed-on (Ok u) before after piece ok h = h
-pushed-on (Err e) before after piece ok h = absurd (false≢true ok)
+pushed_on (Ok u) before after piece ok h = h
+pushed_on (Err e) before after piece ok h = absurd (false≢true ok)
 
 -- a run was read, and no line after it is at fault
-pub rest-checked :
+pub rest_checked :
     (all left more : Result (List Run) (ℕ × ℕ)) (rs qs : List Run) (r : Run) → all ≡ onto rs left → left ≡ onto (r ∷ []) more → more ≡ Ok qs →
     (ps : List Run) × (all ≡ Ok ps) × (1 ≤ length ps)
-rest-checked all left more rs qs r so_far next end =
+rest_checked all left more rs qs r so_far next end =
     let some = length-append (rs ++ (r ∷ [])) qs in
     let one = length-append rs (r ∷ []) in
     ((rs ++ (r ∷ [])) ++ qs, read_more all left more rs r so_far next ∙ ap (onto (rs ++ (r ∷ []))) end, omega arith)
 
-pub memory-fails :
+pub memory_fails :
     {X : Type 0} (P : X → Type 0) (text : List ℕ) (r : Result X Failure) (e : Failure) → r ≡ Err e → e ≡ Memory → Fails Memory text → MatchResult r P (λ f. Fails f text)
-memory-fails P text r e err memory some = subst (λ q. MatchResult q P (λ f. Fails f text)) (sym err) (subst (λ f. Fails f text) (sym memory) some)
+memory_fails P text r e err memory some = subst (λ q. MatchResult q P (λ f. Fails f text)) (sym err) (subst (λ f. Fails f text) (sym memory) some)
 
 some_samples : (rs : List Run) → WellFormed rs → 1 ≤ length rs → 1 ≤ length (samples_of rs)
 some_samples [] formed some = absurd (omega arith)

@@ -62,16 +62,16 @@ pub ends_no_digit : (end after : List ℕ) → Ends end after → NoDigit end
 ends_no_digit [] after e = tt
 ends_no_digit (b ∷ end) after e = λ h. omega (arith, e.0)
 
-ends-first : (end after : List ℕ) → 0 < length end → Ends end after → get_or end 0 0 ≡ 10
-ends-first [] after some e = absurd (omega arith)
-ends-first (b ∷ end) after some e = e.0
+ends_first : (end after : List ℕ) → 0 < length end → Ends end after → get_or end 0 0 ≡ 10
+ends_first [] after some e = absurd (omega arith)
+ends_first (b ∷ end) after some e = e.0
 
 pub no_end :
     (text r end : List ℕ) (n m : ℕ) → Front text n (32 ∷ r) → Front r m end → NoDigit end → 0 < length end → (get_or end 0 0 ≡ 10 → ⊥) → NoTwoNumbers text
 no_end text r end n m f g out some other s c after t =
     let h = subst (λ l. Front l c t.end) (rest_is text r n s c after f t) t.count in
     let e = same_rest r t.end end c m h (ends_no_digit t.end after t.ends) g out in
-    other (ends-first end after some (subst (λ l. Ends l after) e t.ends))
+    other (ends_first end after some (subst (λ l. Ends l after) e t.ends))
 
 -- TWO NUMBERS
 
@@ -112,14 +112,14 @@ pub lacks_newline : (ds es : List ℕ) → AllDigits 10 ds → AllDigits 10 es �
 lacks_newline ds es hd he =
     lacks_append 10 ds (32 ∷ es) (lacks_digits 10 ds hd (λ o. omega arith)) (lacks_cons 10 32 es (omega arith) (lacks_digits 10 es he (λ o. omega arith)))
 
-pub run-two :
+pub run_two :
     (n p : ℕ) (ds es : List ℕ) → 0 < length ds → AllDigits 10 ds → 0 < length es → AllDigits 10 es → run_in n p (ds ++ (32 ∷ es)) ≡ run_of n p (digits_value 10 ds) (digits_value 10 es)
-run-two n p ds es sd hd se he =
+run_two n p ds es sd hd se he =
     ap (run_parted n p) (parted-at 32 ds es (lacks_digits 32 ds hd (λ o. omega arith))) ∙ ap (λ o. run_from n p o es) (number_some ds sd hd)
     ∙ ap (run_with n p (digits_value 10 ds)) (number_some es se he)
 
-run-same : (n p s c v w : ℕ) → min s 65536 ≡ min v 65536 → min c 65536 ≡ min w 65536 → run_of n p v w ≡ run_of n p s c
-run-same n p s c v w es ec = grind (arith, nat_tests)
+run_same : (n p s c v w : ℕ) → min s 65536 ≡ min v 65536 → min c 65536 ≡ min w 65536 → run_of n p v w ≡ run_of n p s c
+run_same n p s c v w es ec = grind (arith, nat_tests)
 
 pub line_read : (n p : ℕ) (text : List ℕ) (s c : ℕ) (after : List ℕ) (v : Result Run (ℕ × ℕ)) → TwoNumbers text s c after → run_of n p s c ≡ v → FirstLine n p text v after
 line_read n p text s c after v t e =
@@ -128,13 +128,13 @@ line_read n p text s c after v t e =
     let whole = t.sample.cut ∙ ap (λ l. ds ++ (32 ∷ l)) t.count.cut ∙ sym (append_assoc ds (32 ∷ es) t.end) in
     let some : 0 < length text = omega (arith, ap length t.sample.cut, length-append ds (32 ∷ t.rest)) in
     line_at n p text (ds ++ (32 ∷ es)) t.end after v whole some (lacks_newline ds es t.sample.all t.count.all) t.ends
-    (run-two n p ds es t.sample.some t.sample.all t.count.some t.count.all
-    ∙ run-same n p s c (digits_value 10 ds) (digits_value 10 es) t.sample.same t.count.same ∙ e)
+    (run_two n p ds es t.sample.some t.sample.all t.count.some t.count.all
+    ∙ run_same n p s c (digits_value 10 ds) (digits_value 10 es) t.sample.same t.count.same ∙ e)
 
-two-numbers :
+two_numbers :
     (line end after ds es : List ℕ) → line ≡ ds ++ (32 ∷ es) → Ends end after → (0 < length ds) × AllDigits 10 ds → (0 < length es) × AllDigits 10 es →
     TwoNumbers (line ++ end) (digits_value 10 ds) (digits_value 10 es) after
-two-numbers line end after ds es e ends hd he =
+two_numbers line end after ds es e ends hd he =
     record {
       rest = es ++ end;
       end = end;
@@ -153,18 +153,18 @@ run_none n p line end after ends not-two =
     ⊎_elim (λ e. parts ∙ ap (λ o. run_from n p o es) e)
     (λ hd.
     ⊎_elim (λ e. parts ∙ ap (λ o. run_from n p o es) (number_some ds hd.0 hd.1) ∙ ap (run_with n p (digits_value 10 ds)) e)
-    (λ he. absurd (not-two _ _ after (two-numbers line end after ds es m.whole ends hd he))) (number_cases es)) (number_cases ds))
+    (λ he. absurd (not-two _ _ after (two_numbers line end after ds es m.whole ends hd he))) (number_cases es)) (number_cases ds))
     (find_mark 32 line)
 
-refused-at :
+refused_at :
     (n p : ℕ) (text line end after : List ℕ) → text ≡ line ++ end → 0 < length text → LacksByte 10 line → Ends end after → NoTwoNumbers text →
     (rest : List ℕ) × FirstLine n p text (Err (5, n)) rest
-refused-at n p text line end after whole some lacks ends not-two = (
+refused_at n p text line end after whole some lacks ends not-two = (
   after,
   line_at n p text line end after (Err (5, n)) whole some lacks ends (run_none n p line end after ends (subst NoTwoNumbers whole not-two)),
 )
 
 pub line_refused : (n p : ℕ) (text : List ℕ) → 0 < length text → NoTwoNumbers text → (after : List ℕ) × FirstLine n p text (Err (5, n)) after
 line_refused n p text some not-two =
-    ⊎_elim (λ h. refused-at n p text text [] [] (sym (append-nil text)) some h refl not-two)
-    (λ m. refused-at n p text m.before (10 ∷ m.after) m.after m.whole some m.first (refl, refl) not-two) (find_mark 10 text)
+    ⊎_elim (λ h. refused_at n p text text [] [] (sym (append-nil text)) some h refl not-two)
+    (λ m. refused_at n p text m.before (10 ∷ m.after) m.after m.whole some m.first (refl, refl) not-two) (find_mark 10 text)

@@ -32,10 +32,10 @@ digit_value : (b : ℕ) → IsInRange 48 57 b → digitValue b ≡ b - 48
 digit_value b h = grind (arith, nat_tests)
 
 -- one digit more is read
-pub digit-more :
+pub digit_more :
     (text ds rest : List ℕ) (n m : ℕ) → text ≡ ds ++ rest → AllDigits 10 ds → min n 1000001 ≡ min (digits_value 10 ds) 1000001 → 0 < length rest → IsInRange 48 57 (get_or rest 0 0) →
     min m 1000001 ≡ min (n * 10 + (get_or rest 0 0 - 48)) 1000001 → FrontTo 1000000 text m (take (length rest - 1) (drop 1 rest))
-digit-more text ds rest n m cut all same some is_digit e =
+digit_more text ds rest n m cut all same some is_digit e =
     let b = get_or rest 0 0 in
     let d = digit_value b is_digit in
     let v = digits_value_push 10 ds b in
@@ -88,10 +88,10 @@ front_more q p start was is h by w e =
     ∙ ap (λ l. start ++ l) (sym (front_last q h))
 
 -- so five digits at most make a number of sixteen bits
-pub five-digits :
+pub five_digits :
     (n : ℕ) (start a b c d is : List ℕ) → n < 65536 → a ≡ start ++ last_digit (n / 10000) → b ≡ a ++ last_digit (n / 1000) → c ≡ b ++ last_digit (n / 100) →
     d ≡ c ++ last_digit (n / 10) → is ≡ d ++ ((48 + n % 10) ∷ []) → is ≡ start ++ decimal n
-five-digits n start a b c d is h ea eb ec ed e =
+five_digits n start a b c d is h ea eb ec ed e =
     let fa = front_more (n / 10000) 0 start start a (omega arith) (omega arith) (sym (append-nil start)) ea in
     let fb = front_more (n / 1000) (n / 10000) start a b (omega arith) (div-div-eq-div-mul n 1000 10) fa eb in
     let fc = front_more (n / 100) (n / 1000) start b c (omega arith) (div-div-eq-div-mul n 100 10) fb ec in

@@ -12,10 +12,10 @@ sixteen_push (q ∷ rs) r s h = (s.0, sixteen_push rs r s.1 h)
 abbrev pub Written : List Run → ℕ → List ℕ → Type 0
 Written rs i out = (out ++ text_of (drop i rs) ≡ text_of rs) × SixteenBit (take i rs)
 
-pub written-more :
+pub written_more :
     (rs : List Run) (i : ℕ) (d : Run) (was is : List ℕ) → i < length rs → Written rs i was → is ≡ was ++ (line_of (get_or rs i d) ++ (10 ∷ [])) → (get_or rs i d).sample ≤ 65535 →
     Written rs (i + 1) is
-written-more rs i d was is h w e s =
+written_more rs i d was is h w e s =
     let line = line_of (get_or rs i d) in
     let rest = text_of (drop (i + 1) rs) in (
       ap (λ l. l ++ rest) e ∙ append_assoc was (line ++ (10 ∷ [])) rest ∙ ap (λ l. was ++ l) (append_assoc line (10 ∷ []) rest)

@@ -35,9 +35,9 @@ no_word text other (Serial k d) after h = other h.rest h.begins
 pub no_line : (text rest : List ℕ) → text ≡ codes "serial line " ++ rest → NoDigit rest → NoHeader text
 no_line text rest begins out (Serial k d) after h = no_front_to 1000000 rest (codes " bit " ++ h.more) k out (line_at text rest k d after begins h)
 
-pub no-bit-word :
+pub no_bit_word :
     (text rest end : List ℕ) (n : ℕ) → text ≡ codes "serial line " ++ rest → FrontTo 1000000 rest n end → NoDigit end → ((more : List ℕ) → end ≡ codes " bit " ++ more → ⊥) → NoHeader text
-no-bit-word text rest end n begins f out other (Serial k d) after h =
+no_bit_word text rest end n begins f out other (Serial k d) after h =
     other h.more (same_rest_to 1000000 rest end (codes " bit " ++ h.more) n k f out (line_at text rest k d after begins h) (λ o. omega arith))
 
 pub no_bit : (text rest more : List ℕ) (n : ℕ) → text ≡ codes "serial line " ++ rest → FrontTo 1000000 rest n (codes " bit " ++ more) → NoDigit more → NoHeader text
@@ -54,10 +54,10 @@ same_after : (end a b : List ℕ) → Ends end a → Ends end b → a ≡ b
 same_after [] a b e f = e ∙ sym f
 same_after (c ∷ end) a b e f = sym e.1 ∙ f.1
 
-pub same-header :
+pub same_header :
     (text : List ℕ) (k d : ℕ) (after : List ℕ) (l e : ℕ) (rest : List ℕ) → SerialHeader text k d after → SerialHeader text l e rest →
     (min k 1000001 ≡ min l 1000001) × (min d 1000001 ≡ min e 1000001) × (after ≡ rest)
-same-header text k d after l e rest h g =
+same_header text k d after l e rest h g =
     let out = ends_no_digit h.end after h.ends in
     let line = line_at text h.rest l e rest h.begins g in
     let bit = bit_at text h.rest h.more k l e rest h.begins h.line g in (

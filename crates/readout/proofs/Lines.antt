@@ -6,7 +6,7 @@ use Rattle.std.proofs.lemmas.List.{append-nil, length-replicate, at_drop_more, a
 use Rattle.samples.specs.declared.run.Run.{Run}
 use Rattle.samples.specs.Runs.{samples_of}
 use Rattle.decoder.specs.Machine.{run, before, outputs_at}
-use Rattle.decoder.proofs.Cut.{placed-append, joined-append}
+use Rattle.decoder.proofs.Cut.{placed_append, joined-append}
 use Rattle.readout.specs.Listing.{line_at, listing}
 
 replicate-left : {X : Type 0} (n i : ℕ) (x : X) → i < n → replicate (n - i) x ≡ x ∷ replicate (n - (i + 1)) x
@@ -79,38 +79,38 @@ module _ {S O : Type 0} (step : S → ℕ → S) (emit : S → ℕ → Option O)
     pub few : length (outputs_at step emit p s (samples_of (drop i rs))) ≤ length (outputs_at step emit 0 start (samples_of rs))
 
   -- what is left to read of a run, and of those after it
-  run-outputs :
+  run_outputs :
       (s : S) (rs : List Run) (i p : ℕ) (d : Run) → i < length rs →
       length (outputs_at step emit p s (samples_of (drop i rs)))
       ≡ length (outputs_at step emit p s (replicate (get_or rs i d).count (get_or rs i d).sample))
       + length (outputs_at step emit (p + length (replicate (get_or rs i d).count (get_or rs i d).sample)) (run step s (replicate (get_or rs i d).count (get_or rs i d).sample)) (samples_of (drop (i + 1) rs)))
-  run-outputs s rs i p d h =
+  run_outputs s rs i p d h =
       let here = replicate (get_or rs i d).count (get_or rs i d).sample in
       at_drop_more (λ qs. length (outputs_at step emit p s (samples_of qs))) rs i d h
-      ∙ ap length (placed-append step emit p s here (samples_of (drop (i + 1) rs))) ∙ length-append (outputs_at step emit p s here) _
+      ∙ ap length (placed_append step emit p s here (samples_of (drop (i + 1) rs))) ∙ length-append (outputs_at step emit p s here) _
 
   -- something is read of a run
-  pub run-some :
+  pub run_some :
       (start : S) (rs : List Run) (s : S) (i p : ℕ) (out : List ℕ) (d : Run) → i < length rs → Along start rs s i p out →
       1 ≤ length (outputs_at step emit p s (replicate (get_or rs i d).count (get_or rs i d).sample)) → 1 ≤ length (outputs_at step emit 0 start (samples_of rs))
-  run-some start rs s i p out d h a some = omega (arith, a.few, run-outputs s rs i p d h)
+  run_some start rs s i p out d h a some = omega (arith, a.few, run_outputs s rs i p d h)
 
-  pub along-more :
+  pub along_more :
       (start : S) (rs : List Run) (s t : S) (i p q : ℕ) (out is : List ℕ) (d : Run) → i < length rs → Along start rs s i p out →
       t ≡ run step s (replicate (get_or rs i d).count (get_or rs i d).sample) → q ≡ p + (get_or rs i d).count →
       is ≡ out ++ listed p s (replicate (get_or rs i d).count (get_or rs i d).sample) → Along start rs t (i + 1) q is
-  along-more start rs s t i p q out is d h a state place wrote =
+  along_more start rs s t i p q out is d h a state place wrote =
       let r = get_or rs i d in
       let here = replicate r.count r.sample in
       let rest = samples_of (drop (i + 1) rs) in
-      let cut = placed-append step emit p s here rest in
+      let cut = placed_append step emit p s here rest in
       let long : p + length here ≡ q = ap (λ n. p + n) (length-replicate r.count r.sample) ∙ sym place in
       record {
         text =
             ap (λ l. l ++ listed q t rest) wrote ∙ append_assoc out (listed p s here) (listed q t rest)
             ∙ ap (λ l. out ++ l) (rw (state, ← long) (sym (ap (listing words) cut ∙ joined-append (line_at words) (outputs_at step emit p s here) (outputs_at step emit (p + length here) (run step s here) rest))))
             ∙ ap (λ l. out ++ l) (sym (at_drop_more (λ qs. listed p s (samples_of qs)) rs i d h)) ∙ a.text;
-        few = rw (state, ← long) (omega (arith, a.few, run-outputs s rs i p d h));
+        few = rw (state, ← long) (omega (arith, a.few, run_outputs s rs i p d h));
       }
 
   pub along_all : (start : S) (rs : List Run) (s : S) (i p : ℕ) (out : List ℕ) → length rs ≤ i → Along start rs s i p out → out ≡ listed 0 start (samples_of rs)

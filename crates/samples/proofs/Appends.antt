@@ -43,10 +43,10 @@ pub last_parted : (rs : List Run) (n : ℕ) (l : Run) → n + 1 ≡ length rs �
 last_parted rs n l long last = sym (take_all (n + 1) rs (omega arith)) ∙ take_more rs n l (omega arith) ∙ ap (λ r. take n rs ++ (r ∷ [])) (sym last)
 
 -- the last of some runs gives way to what it and more samples come to
-pub last-replaced :
+pub last_replaced :
     (rs more extra : List Run) (n : ℕ) (l a : Run) (ys : List ℕ) → rolled (samples_of rs) ≡ rs → n + 1 ≡ length rs → l ≡ get_or rs n l → more ≡ rs ++ extra →
     a ∷ extra ≡ rolled_on l ys → set more n a ≡ rolled (samples_of rs ++ ys)
-last-replaced rs more extra n l a ys packed long last grows joined =
+last_replaced rs more extra n l a ys packed long last grows joined =
     let front = take n rs in
     let parts = last_parted rs n l long last in
     ap (λ qs. set qs n a) (grows ∙ ap (λ qs. qs ++ extra) parts ∙ append_assoc front (l ∷ []) extra) ∙ set_at front l extra a n (length-take-le n rs (omega arith))
@@ -67,11 +67,11 @@ first_or_none false rs after x n none l h e packed = rolled-again after (samples
 -- MORE RUNS
 
 -- how many runs there are then
-pub last-counted :
+pub last_counted :
     (rs extra : List Run) (n : ℕ) (l a : Run) (ys : List ℕ) → rolled (samples_of rs) ≡ rs → n + 1 ≡ length rs → l ≡ get_or rs n l → a ∷ extra ≡ rolled_on l ys →
     length (rolled (samples_of rs ++ ys)) ≡ length rs + length extra
-last-counted rs extra n l a ys packed long last joined =
-    ap length (sym (last-replaced rs (rs ++ extra) extra n l a ys packed long last refl joined)) ∙ length-set (rs ++ extra) n a ∙ length-append rs extra
+last_counted rs extra n l a ys packed long last joined =
+    ap length (sym (last_replaced rs (rs ++ extra) extra n l a ys packed long last refl joined)) ∙ length-set (rs ++ extra) n a ∙ length-append rs extra
 
 pub first_counted : (rs : List Run) (x n : ℕ) → length rs ≡ 0 → 1 ≤ n → n ≤ 65535 → length (rolled (samples_of rs ++ replicate n x)) ≡ 1
 first_counted rs x n none l h = ap length (sym (first_pushed rs (rs ++ (run x n ∷ [])) x n none l h refl)) ∙ length-append rs (run x n ∷ []) ∙ ap (λ k. k + 1) none
@@ -93,10 +93,10 @@ more_runs ss ys =
 -- PIECES
 
 -- the first run of what is left of a piece from `at` on, which is lent
-pub first-left :
+pub first_left :
     (r : Run) (xs : List ℕ) (at : ℕ) → rolled (take (length xs - at) (drop at xs)) ≡ r ∷ rolled (drop r.count (take (length xs - at) (drop at xs))) →
     rolled (drop at xs) ≡ r ∷ rolled (drop r.count (drop at xs))
-first-left r xs at e = subst (λ ys. rolled ys ≡ r ∷ rolled (drop r.count ys)) (take_rest xs at) e
+first_left r xs at e = subst (λ ys. rolled ys ≡ r ∷ rolled (drop r.count ys)) (take_rest xs at) e
 
 pub left_within : (n at : ℕ) (xs : List ℕ) → at ≤ length xs → n ≤ length (take (length xs - at) (drop at xs)) → at + n ≤ length xs
 left_within n at xs h e = omega (arith, ap length (take_rest xs at), length-drop at xs)
@@ -111,20 +111,20 @@ front_given r xs e =
     (ap (λ ys. replicate r.count r.sample ++ ys) (sym (rolled-gives (drop r.count xs))) ∙ ap samples_of (sym e) ∙ rolled-gives xs ∙ sym (take-append-drop r.count xs))
 
 -- runs that came of some samples and the front of a piece, and the next run of the piece
-pub piece-more :
+pub piece_more :
     (was is : List Run) (ss xs : List ℕ) (at : ℕ) (r : Run) → at + r.count ≤ length xs → was ≡ rolled (ss ++ take at xs) → rolled (drop at xs) ≡ r ∷ rolled (drop r.count (drop at xs)) →
     is ≡ rolled (samples_of was ++ replicate r.count r.sample) → is ≡ rolled (ss ++ take (at + r.count) xs)
-piece-more was is ss xs at r h e first push =
+piece_more was is ss xs at r h e first push =
     push ∙ ap (λ ys. rolled (ys ++ replicate r.count r.sample)) (ap samples_of e ∙ rolled-gives (ss ++ take at xs))
     ∙ ap rolled (append_assoc ss (take at xs) (replicate r.count r.sample)) ∙ ap (λ ys. rolled (ss ++ (take at xs ++ ys))) (front_given r (drop at xs) first)
     ∙ ap (λ ys. rolled (ss ++ ys)) (sym (take-add at r.count xs))
 
 -- memory that does not suffice for the front of a piece does not suffice for the piece
-pub piece-wants :
+pub piece_wants :
     (was : List Run) (ss xs : List ℕ) (at cap : ℕ) (r : Run) → at + r.count ≤ length xs → was ≡ rolled (ss ++ take at xs) →
     rolled (drop at xs) ≡ r ∷ rolled (drop r.count (drop at xs)) → cap < length (rolled (samples_of was ++ replicate r.count r.sample)) → cap < length (rolled (ss ++ xs))
-piece-wants was ss xs at cap r h e first wants =
+piece_wants was ss xs at cap r h e first wants =
     let front = take (at + r.count) xs in
-    let so_far = ap length (piece-more was _ ss xs at r h e first refl) in
+    let so_far = ap length (piece_more was _ ss xs at r h e first refl) in
     let all = ap length (ap rolled (append_assoc ss front (drop (at + r.count) xs) ∙ ap (λ ys. ss ++ ys) (take-append-drop (at + r.count) xs))) in
     omega (arith, more_runs (ss ++ front) (drop (at + r.count) xs), so_far, all)

@@ -32,11 +32,11 @@ past q r rest front after e l h =
     )
 
 -- so no run reaches past the first of packed runs
-not-past :
+not_past :
     (q r : Run) (rs : List Run) (rest front : List ℕ) → q.count ≤ 65535 → WellFormed (r ∷ rs) → Apart r rs →
     block q ++ rest ≡ front ++ samples_of (r ∷ rs) → length front + r.count < q.count → ⊥
-not-past q r [] rest front b f a e h = let some = (past q r rest front [] e f.0 h).0 in omega arith
-not-past q r (s ∷ rs) rest front b f a e h =
+not_past q r [] rest front b f a e h = let some = (past q r rest front [] e f.0 h).0 in omega arith
+not_past q r (s ∷ rs) rest front b f a e h =
     let same = (past q r rest front (samples_of (s ∷ rs)) e f.0 h).1 in
     ⊎_elim (λ full. omega arith) (λ other. other (sym (in_run s (samples_of rs) 0 f.2.0) ∙ same)) a
 
@@ -48,7 +48,7 @@ ahead (r ∷ rs) [] front f p g e =
     absurd (omega (arith, some, f.0, length-append (block r) (samples_of rs), length-replicate r.count r.sample))
 ahead (r ∷ rs) (q ∷ qs) front f p g e =
     let within : q.count ≤ length (front ++ block r) =
-    ⊎_elim (λ h. absurd (not-past q r rs (samples_of qs) front g.1 f p.0 e h)) (λ h. omega (arith, length-append front (block r), length-replicate r.count r.sample))
+    ⊎_elim (λ h. absurd (not_past q r rs (samples_of qs) front g.1 f p.0 e h)) (λ h. omega (arith, length-append front (block r), length-replicate r.count r.sample))
     (cases_lt (length front + r.count) q.count) in
     let left =
     sym (drop_at (block q) (samples_of qs) q.count (length-replicate q.count q.sample)) ∙ ap (drop q.count) (e ∙ sym (append_assoc front (block r) (samples_of rs)))

@@ -47,10 +47,10 @@ pub join_within : (r q : Run) → r.count + q.count ≤ 65535 → q.sample ≡ r
 join_within r q h same =
     sym (ap (λ x. rolled_on r (replicate q.count x)) same ∙ ap (rolled_on r) (sym (append-nil (replicate q.count r.sample))) ∙ grown r q.count [] h)
 
-pub join-past :
+pub join_past :
     (r q : Run) → r.count ≤ 65535 → q.count ≤ 65535 → 65535 < r.count + q.count → q.sample ≡ r.sample →
     run r.sample 65535 ∷ (run r.sample (q.count - (65535 - r.count)) ∷ []) ≡ rolled_on r (replicate q.count q.sample)
-join-past r q h k over same =
+join_past r q h k over same =
     let free = 65535 - r.count in
     let rest = q.count - (65535 - r.count) in
     let full = run r.sample 65535 in
@@ -80,6 +80,6 @@ pub front_most : (x n : ℕ) (xs : List ℕ) → min (length xs) 65535 ≤ n →
 front_most x n xs h =
     ⊎_elim (λ full. ends_full (run x n) (drop n xs) (omega arith)) (λ all. subst (Ends (run x n)) (sym (drop_all n xs all)) tt) (cases_lt n (length xs))
 
-pub front-rolls :
+pub front_rolls :
     (x n : ℕ) (xs : List ℕ) → 1 ≤ n → n ≤ 65535 → take n xs ≡ replicate n x → Ends (run x n) (drop n xs) → rolled xs ≡ run x n ∷ rolled (drop n xs)
-front-rolls x n xs l h e d = ap rolled (sym (take-append-drop n xs)) ∙ ap (λ ys. rolled (ys ++ drop n xs)) e ∙ begun x n (drop n xs) l h d
+front_rolls x n xs l h e d = ap rolled (sym (take-append-drop n xs)) ∙ ap (λ ys. rolled (ys ++ drop n xs)) e ∙ begun x n (drop n xs) l h d

@@ -12,8 +12,8 @@ pub not_extended :
 not_extended (Ok u) before after piece err same wants = absurd (false≢true err)
 not_extended (Err e) before after piece err same wants = (same, wants)
 
-pub some-extended :
+pub some_extended :
     {E : Type 0} (r : Result (Unit {0}) E) (before after : Vec Run Global) (piece : List ℕ) (k : ℕ) → is_err r ≡ true →
     vec_items after ≡ extended (vec_items before) (take k piece) → vec_capacity before < length (extended (vec_items before) piece) → ExtendsSome r before piece after
-some-extended (Ok u) before after piece k err front wants = absurd (false≢true err)
-some-extended (Err e) before after piece k err front wants = ((k, front), wants)
+some_extended (Ok u) before after piece k err front wants = absurd (false≢true err)
+some_extended (Err e) before after piece k err front wants = ((k, front), wants)

@@ -41,11 +41,11 @@ length-levels v n (l ∷ ls) =
     length-append (replicate l (level_of v n)) (levels_from v (suc n) ls) ∙ omega (arith, length-replicate l (level_of v n))
 
 -- a sample within level n + i, of the levels from n on
-pub in-level :
+pub in_level :
     (v n : ℕ) (ls : List ℕ) (i q : ℕ) → i < length ls → begin ls i ≤ q → q < begin ls i + get_or ls i 0 →
     (q < length (levels_from v n ls)) × (get_or (levels_from v n ls) q true ≡ level_of v (n + i))
-in-level v n [] i q h a b = absurd (omega arith)
-in-level v n (l ∷ ls) zero q h a b =
+in_level v n [] i q h a b = absurd (omega arith)
+in_level v n (l ∷ ls) zero q h a b =
     let here = replicate l (level_of v n) in
     let rest = levels_from v (suc n) ls in
     let long = length-replicate l (level_of v n) in
@@ -53,11 +53,11 @@ in-level v n (l ∷ ls) zero q h a b =
       omega (arith, length-append here rest),
       get_or_append_left here rest true q (omega arith) ∙ get_or-replicate l q (level_of v n) true (omega arith) ∙ ap (level_of v) z,
     )
-in-level v n (l ∷ ls) (suc i) q h a b =
+in_level v n (l ∷ ls) (suc i) q h a b =
     let here = replicate l (level_of v n) in
     let rest = levels_from v (suc n) ls in
     let long = length-replicate l (level_of v n) in
-    let on = in-level v (suc n) ls i (q - l) (omega arith) (omega arith) (omega arith) in
+    let on = in_level v (suc n) ls i (q - l) (omega arith) (omega arith) (omega arith) in
     let z : suc n + i ≡ n + suc i = omega arith in
     (omega (arith, on.0, length-append here rest), get_or-append_right here rest l q true long (omega arith) ∙ on.1 ∙ ap (level_of v) z)
 

@@ -8,7 +8,7 @@ use Rattle.uart.specs.declared.words.Word.{Word}
 use Rattle.uart.specs.Decoder.{idle, on_level, read_at, fresh}
 use Rattle.uart.specs.Rule.{look_place, look, word_of, by_looks, LooksAreRead}
 use Rattle.uart.proofs.Levels.{line_words}
-use Rattle.uart.proofs.Looks.{start-looked, start_cut, frame_read, frame_cut}
+use Rattle.uart.proofs.Looks.{start_looked, start_cut, frame_read, frame_cut}
 
 module _ (d k : ℕ) (two : 2 ≤ d) where
   by_rule : (fuel p : ℕ) (b : Bool) (xs : List Bool) → length xs ≤ fuel → outputs_at on_level read_at p (idle (fresh d k) b) xs ≡ by_looks fuel d p b xs
@@ -26,7 +26,7 @@ module _ (d k : ℕ) (two : 2 ≤ d) where
       cond_both (leb (length ys) (look_place d 0)) _ _ Read (λ e. start_cut d k p two ys refl (leb-true (length ys) (look_place d 0) e))
       (λ e.
       let long = leb-false (length ys) (look_place d 0) e in
-      cond_both (look d ys 0) _ _ Read (λ none. (start-looked d k p two ys true refl none long).words ∙ on (look_place d 0) true)
+      cond_both (look d ys 0) _ _ Read (λ none. (start_looked d k p two ys true refl none long).words ∙ on (look_place d 0) true)
       (λ started.
       cond_both (leb (length ys) (look_place d 9)) _ _ Read (λ f. frame_cut d k p two ys refl started long (leb-true (length ys) (look_place d 9) f))
       (λ f.

@@ -10,7 +10,7 @@ use Rattle.decoder.specs.Machine.{run, outputs, outputs_at, placed_within}
 use Rattle.decoder.specs.Reading.{After, reading, read_all, numbers_given, numbers_read, CutIsRead}
 use Rattle.decoder.proofs.Calls.{reads, has_read, goes_on, given, cut_is_read}
 use Rattle.decoder.proofs.Cut.{run-append, outputs-append, outputs-few, unplaced, joined-append, length-joined}
-use Rattle.decoder.proofs.Places.{piece-within}
+use Rattle.decoder.proofs.Places.{piece_within}
 use Rattle.uart.specs.declared.words.Reader.{Reader}
 use Rattle.uart.specs.declared.words.Word.{Word}
 use Rattle.uart.specs.declared.words.Word.TheVariants.{Byte, Broken}
@@ -66,7 +66,7 @@ reads_its_share d k samples memory room words before rest h c follows few fits =
     let sound = fresh_sound d k h in
     let r = run step start before in
     let n = length before in
-    let placed = sym (piece-within step emit start before samples rest) ∙ ap (placed_within n (n + length samples)) (carried d k (before ++ (samples ++ rest)) words h.0 c) in
+    let placed = sym (piece_within step emit start before samples rest) ∙ ap (placed_within n (n + length samples)) (carried d k (before ++ (samples ++ rest)) words h.0 c) in
     let mine : outputs step emit r samples ≡ share words before samples = unplaced step emit n r samples ∙ ap (map (λ p. p.1)) placed in
     let restores : restored start memory ≡ Ok r = ap (restored start) follows ∙ on start start (saved start) before sound (back start sound) in
     let enough : length (numbers_read step emit encoded r samples) ≤ length room = rw mine fits in
@@ -109,53 +109,53 @@ abbrev numbers_of : After → List ℕ
 numbers_of a = numbers_given 2 a.answer a.room
 
 -- a call from the memory of a reader is not refused where its room is ample
-ample-call :
+ample_call :
     (d k : ℕ) (r : Reader) (c : Call) → InRange d k → GoesOn d k r → length c.piece ≤ 65535 → length c.piece * 2 ≤ length c.room →
     serial_after d k c.piece (saved r) c.room ≡ read_all step emit encoded saved r c.piece c.room
-ample-call d k r c h g few ample =
+ample_call d k r c h g few ample =
     let long = length-joined encoded 2 two_each (outputs step emit r c.piece) in
     let most : length (outputs step emit r c.piece) * 2 ≤ length c.piece * 2 = mul-le-mul_right 2 (outputs-few step emit r c.piece) in
     passes d k c.piece (saved r) c.room h
     ∙ reads step emit encoded saved c.piece (saved r) c.room (restored (fresh d k) (saved r)) r (g []) few (le-leb _ _ (omega (arith, long, most, ample)))
 
 -- and what it is that a call reads
-read-call :
+read_call :
     (d k n : ℕ) (r : Reader) (c : Call) → InRange d k → GoesOn d k r → (serial_after d k c.piece (saved r) c.room).answer ≡ Read n →
     serial_after d k c.piece (saved r) c.room ≡ read_all step emit encoded saved r c.piece c.room
-read-call d k n r c h g e =
+read_call d k n r c h g e =
     let same = passes d k c.piece (saved r) c.room h in
     let read = has_read step emit encoded saved c.piece (saved r) c.room (restored (fresh d k) (saved r)) n (sym (ap (λ (a : After). a.answer) same) ∙ e) in
     let is : read.reader ≡ r = (let f = sym read.restored ∙ g [] in cc) in
     same ∙ read.all ∙ ap (λ q. read_all step emit encoded saved q c.piece c.room) is
 
 -- the calls that follow one
-next-calls :
+next_calls :
     (d k : ℕ) (r : Reader) (c : Call) (cs : List Call) → serial_after d k c.piece (saved r) c.room ≡ read_all step emit encoded saved r c.piece c.room →
     calls d k (serial_after d k c.piece (saved r) c.room).memory cs ≡ calls d k (saved (run step r c.piece)) cs
-next-calls d k r c cs all = ap (λ (a : After). calls d k a.memory cs) all
+next_calls d k r c cs all = ap (λ (a : After). calls d k a.memory cs) all
 
 all_read : (d k : ℕ) (r : Reader) (cs : List Call) → InRange d k → GoesOn d k r → AllAmple cs → AllRead (calls d k (saved r) cs)
 all_read d k r [] h g ample = tt
 all_read d k r (c ∷ cs) h g ample =
-    let all = ample-call d k r c h g ample.0 ample.1 in (
+    let all = ample_call d k r c h g ample.0 ample.1 in (
       (length (outputs step emit r c.piece), ap (λ (a : After). a.answer) all),
-      subst AllRead (sym (next-calls d k r c cs all)) (all_read d k (run step r c.piece) cs h (later_goes_on d k r c.piece g) ample.2),
+      subst AllRead (sym (next_calls d k r c cs all)) (all_read d k (run step r c.piece) cs h (later_goes_on d k r c.piece g) ample.2),
     )
 
-all-numbers :
+all_numbers :
     (d k : ℕ) (r : Reader) (cs : List Call) → InRange d k → GoesOn d k r → AllRead (calls d k (saved r) cs) →
     flat_map numbers_of (calls d k (saved r) cs) ≡ flat_map encoded (outputs step emit r (flat_map piece_of cs))
-all-numbers d k r [] h g read = refl
-all-numbers d k r (c ∷ cs) h g read =
+all_numbers d k r [] h g read = refl
+all_numbers d k r (c ∷ cs) h g read =
     let t = run step r c.piece in
     let os = outputs step emit r c.piece in
-    let all = read-call d k read.0.0 r c h g read.0.1 in
-    let next = next-calls d k r c cs all in
+    let all = read_call d k read.0.0 r c h g read.0.1 in
+    let next = next_calls d k r c cs all in
     let here : numbers_of (serial_after d k c.piece (saved r) c.room) ≡ flat_map encoded os =
     ap numbers_of all ∙ given Sound step emit encoded 2 saved restored two_each on r c.piece c.room (length os) refl in
     ap (λ l. l ++ flat_map numbers_of (calls d k (serial_after d k c.piece (saved r) c.room).memory cs)) here
     ∙ ap (λ l. flat_map encoded os ++ flat_map numbers_of l) next
-    ∙ ap (λ l. flat_map encoded os ++ l) (all-numbers d k t cs h (later_goes_on d k r c.piece g) (subst AllRead next read.1))
+    ∙ ap (λ l. flat_map encoded os ++ l) (all_numbers d k t cs h (later_goes_on d k r c.piece g) (subst AllRead next read.1))
     ∙ sym (joined-append encoded os (outputs step emit t (flat_map piece_of cs))) ∙ sym (ap (flat_map encoded) (outputs-append step emit r c.piece (flat_map piece_of cs)))
 
 pub streams_are_read : StreamsAreRead
@@ -163,7 +163,7 @@ streams_are_read d k words cs h c =
     let placed = carried d k (flat_map piece_of cs) words h.0 c in (
       all_read d k (fresh d k) cs h (fresh_goes_on d k h),
       λ read.
-          all-numbers d k (fresh d k) cs h (fresh_goes_on d k h) read
+          all_numbers d k (fresh d k) cs h (fresh_goes_on d k h) read
           ∙ ap (flat_map encoded) (unplaced step emit 0 (fresh d k) (flat_map piece_of cs) ∙ ap (map (λ p. p.1)) placed),
     )
 

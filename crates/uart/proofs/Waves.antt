@@ -9,7 +9,7 @@ use Rattle.uart.specs.Decoder.{on_level, read_at, step, emit, fresh}
 use Rattle.uart.specs.Rule.{look_place, look, bits_at, word_of}
 use Rattle.uart.specs.Wave.{Sent, level_of, levels_from, sent_wave, wave, wave_after, begin, Fair, AllFair, sent_at, bytes_sent, WavesAreRead}
 use Rattle.uart.proofs.Digits.{bits_more}
-use Rattle.uart.proofs.Levels.{begin-first, begin-next, length-levels, in-level, line_run, line_words}
+use Rattle.uart.proofs.Levels.{begin-first, begin-next, length-levels, in_level, line_run, line_words}
 use Rattle.uart.proofs.Looks.{Comes, and_then, frame_read}
 
 -- THE BITS OF A BYTE
@@ -45,7 +45,7 @@ module _ (d k p : ℕ) (two : 2 ≤ d) (b : Sent) (fair : Fair d b) (zs : List B
       (n q : ℕ) → n < 10 → begin b.lengths n ≤ q → q < begin b.lengths n + get_or b.lengths n 0 →
       (q < length levels) × (get_or levels q true ≡ level_of b.value n)
   within n q h l m =
-      let at = in-level b.value 0 b.lengths n q (omega (arith, fair.ten)) l m in
+      let at = in_level b.value 0 b.lengths n q (omega (arith, fair.ten)) l m in
       let z : 0 + n ≡ n = omega arith in
       (at.0, at.1 ∙ ap (level_of b.value) z)
 

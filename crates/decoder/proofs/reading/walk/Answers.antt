@@ -2,7 +2,7 @@ use Rattle.std.proofs.Common.{◌≡◌, ◌+◌, ◌≤◌, ◌∷◌, length, 
 use Rattle.std.specs.List.{flat_map}
 use Rattle.decoder.specs.Machine.{run, before, outputs}
 use Rattle.decoder.proofs.Cut.{run_more, run-all, outputs-more, outputs-all}
-use Rattle.decoder.proofs.Written.{next_fits, filling-more, filling_all}
+use Rattle.decoder.proofs.Written.{next_fits, filling_more, filling_all}
 use Rattle.decoder.proofs.reading.walk.Goals as goal
 use Rattle.decoder.proofs.reading.walk.Goals.{in-Some, in_default, then-width-room, else-width-room}
 
@@ -38,7 +38,7 @@ loop-sample-preserved g c =
                   omega (arith, at, wide, c.width-width.ensures, v.if-width-room.true, c.match-output.auto.room, c.loop-sample.auto.room, inv.2),
                   ran,
                   count,
-                  λ fits. rw (at, room) (filling-more _ _ _ c.loop-sample.room _ (d.encoded o) _ c.loop-sample.at (omega (arith, fits, c.loop-sample.auto.room)) left (inv.5 fits) v.encode.ensures),
+                  λ fits. rw (at, room) (filling_more _ _ _ c.loop-sample.room _ (d.encoded o) _ c.loop-sample.at (omega (arith, fits, c.loop-sample.auto.room)) left (inv.5 fits) v.encode.ensures),
                 )
             | else-width-room v ↦ (
               sound,

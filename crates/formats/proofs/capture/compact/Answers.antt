@@ -4,7 +4,7 @@ use Rattle.std.proofs.lemmas.Result.{err_from_is_err_and}
 use Rattle.samples.proofs.Fewest.{rolled-minimal, packed_minimal}
 use Rattle.formats.specs.Capture.{samples_given}
 use Rattle.formats.specs.Text.{text_of}
-use Rattle.formats.proofs.Captures.{memory-fails, text_some}
+use Rattle.formats.proofs.Captures.{memory_fails, text_some}
 use Rattle.formats.proofs.capture.compact.Goals as goal
 
 pub returns : goal.returns
@@ -26,5 +26,5 @@ returns-in_err-write_capture c =
     let result = c.from_residual-in_err-write_capture.result in
     let p = err_from_is_err_and result c.from_residual-in_err-write_capture.ensures.1 in
     let formed = (packed_minimal (vec_items runs.list) runs.packed).formed in
-    memory-fails _ c.args.text.now result p.0 p.1 p.2
+    memory_fails _ c.args.text.now result p.0 p.1 p.2
     (text_some c.args.text.now (vec_items runs.list) c.in_ok-runs.ensures formed c.in_err-write_capture.ensures)

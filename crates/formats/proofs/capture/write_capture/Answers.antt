@@ -1,7 +1,7 @@
 use Rattle.std.proofs.Common.{◌≡◌, ◌++◌, Ok, vec_items, ap, ◌∙◌, subst, arith}
 use Rattle.formats.specs.Text.{text_of, runs_in}
 use Rattle.formats.proofs.Back.{round_trip}
-use Rattle.formats.proofs.Writing.{written-more, written_all}
+use Rattle.formats.proofs.Writing.{written_more, written_all}
 use Rattle.formats.proofs.capture.write_capture.Goals as goal
 
 pub loop-run-init : goal.loop-run-init
@@ -16,7 +16,7 @@ put_line-requires c = omega (arith, c.loop-run.invariant.1, c.loop-run-test.true
 
 pub loop-run-preserved : goal.loop-run-preserved
 loop-run-preserved c = (
-  written-more c.as_slice-list.result.now c.loop-run.run-index _ _ _ c.loop-run-test.true c.loop-run.invariant.0 c.put_line.ensures.items c.put_line.ensures.bound,
+  written_more c.as_slice-list.result.now c.loop-run.run-index _ _ _ c.loop-run-test.true c.loop-run.invariant.0 c.put_line.ensures.items c.put_line.ensures.bound,
   omega (arith, c.put_line.ensures.len, c.put_line.ensures.capacity, c.loop-run.invariant.1),
 )
 

@@ -6,7 +6,7 @@ use Rattle.decoder.specs.Machine.{outputs_at}
 use Rattle.uart.specs.Decoder.{step, emit, fresh, setting_at_fault}
 use Rattle.uart.specs.Word.{word_text}
 use Rattle.readout.specs.Listing.{listing}
-use Rattle.readout.proofs.Texts.{memory-wants, decodes}
+use Rattle.readout.proofs.Texts.{memory_wants, decodes}
 use Rattle.readout.proofs.decode.decode_serial.Goals as goal
 use Rattle.readout.proofs.decode.decode_serial.Goals.{In_ok-reader}
 
@@ -21,7 +21,7 @@ returns-in_err-list c =
     let p = err_from_is_err_and result c.from_residual-in_err-list.ensures.1 in
     let runs = c.in_ok-runs.runs in
     let formed = (packed_minimal (vec_items runs.list) runs.packed).formed in
-    memory-wants _ _ _ _ c.in_ok-reader.reader (vec_items runs.list) result p.0 p.1 p.2 (fine (goal.at.returns-in_err-list c).In_ok-reader)
+    memory_wants _ _ _ _ c.in_ok-reader.reader (vec_items runs.list) result p.0 p.1 p.2 (fine (goal.at.returns-in_err-list c).In_ok-reader)
     c.in_ok-runs.ensures formed
     (subst (λ rs. 1 ≤ length (outputs_at step emit 0 c.in_ok-reader.reader (samples_of rs))) c.as_slice.ensures.value c.in_err-list.ensures)
 

@@ -1,7 +1,7 @@
 use Rattle.std.proofs.Common.{◌≡◌, ◌++◌, Some, None, codes, subst}
 use Rattle.std.proofs.lemmas.Slice.Eq.{strip_prefix_is}
 use Rattle.formats.specs.Number.{FrontTo}
-use Rattle.readout.proofs.Headers.{no_word, no_line, no-bit-word, no_bit, no_end}
+use Rattle.readout.proofs.Headers.{no_word, no_line, no_bit_word, no_bit, no_end}
 use Rattle.readout.proofs.header.read_header.Goals as goal
 use Rattle.readout.proofs.header.read_header.Goals.{In_ok-rest, In_ok-rest-2}
 use Rattle.std.proofs.lemmas.Bool.Decides.{Decides-eqb}
@@ -30,7 +30,7 @@ pub returns-in_err-rest-2 : goal.returns-in_err-rest-2
 returns-in_err-rest-2 c =
     let read = c.in_ok-line.ensures in
     rw c.from_residual-in_err-rest-2.ensures
-    (no-bit-word c.args.text.now c.in_ok-rest.rest.now c.in_ok-line.rest.now c.in_ok-line.line
+    (no_bit_word c.args.text.now c.in_ok-rest.rest.now c.in_ok-line.rest.now c.in_ok-line.line
     (begins (goal.at.returns-in_err-rest-2 c).In_ok-rest) read.0 read.1
     (strip_prefix_is Decides-eqb c.in_ok-line.rest.now (codes " bit ") None c.in_err-rest-2.ensures.cases))
 

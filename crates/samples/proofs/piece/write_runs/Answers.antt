@@ -2,13 +2,13 @@ use Rattle.std.proofs.Common.{◌≡◌, ◌+◌, ◌≤◌, [], ◌∷◌, ◌+
 use Rattle.std.proofs.lemmas.List.{append-nil, drop-drop, drop_all, take_rest}
 use Rattle.samples.specs.Roll.{numbers}
 use Rattle.samples.specs.Runs.{rolled}
-use Rattle.samples.proofs.Appends.{first-left, left_within, none_left}
+use Rattle.samples.proofs.Appends.{first_left, left_within, none_left}
 use Rattle.samples.proofs.Room.{length-numbers, take-written, drop-written, room_filled}
 use Rattle.samples.proofs.piece.write_runs.Goals as goal
 
 pub write_run-requires : goal.write_run-requires
 write_run-requires c =
-    let first = first-left c.in-Some.run' c.args.samples.now c.loop-run.from c.in-Some.ensures.rolls in
+    let first = first_left c.in-Some.run' c.args.samples.now c.loop-run.from c.in-Some.ensures.rolls in
     omega (arith, ap length first, c.loop-run.invariant.1, c.requires, c.loop-run.auto.room, ap length (take_rest c.loop-run.room c.loop-run.at), length-drop c.loop-run.at c.loop-run.room)
 
 pub loop-run-preserved : goal.loop-run-preserved
@@ -22,7 +22,7 @@ loop-run-preserved c =
     let within = left_within r.count from xs (omega arith) c.in-Some.ensures.within.1 in
     let left = numbers (rolled (drop (from + n) xs)) in
     let first : rolled (drop from xs) ≡ r ∷ rolled (drop (from + n) xs) =
-    first-left r xs from c.in-Some.ensures.rolls ∙ ap (λ ys. r ∷ rolled ys) (drop-drop r.count from xs)
+    first_left r xs from c.in-Some.ensures.rolls ∙ ap (λ ys. r ∷ rolled ys) (drop-drop r.count from xs)
     ∙ ap (λ k. r ∷ rolled (drop (from + k) xs)) (sym c.from-from.ensures) in
     let fits : at + 2 ≤ length room = omega (arith, ap length first, c.loop-run.invariant.1, c.requires, c.loop-run.auto.room) in (
       omega (arith, within, c.from-from.ensures),

@@ -1,5 +1,5 @@
 use Rattle.std.proofs.Common.{◌<◌, length, get_or, refl, arith, rules}
-use Rattle.samples.proofs.Steps.{front_one, front_more, front_other, front_most, front-rolls}
+use Rattle.samples.proofs.Steps.{front_one, front_more, front_other, front_most, front_rolls}
 use Rattle.samples.proofs.run.first_run.Goals as goal
 use Rattle.samples.proofs.run.first_run.Goals.{then-loop-count-test+else-samples-count, else-loop-count-test}
 
@@ -18,7 +18,7 @@ returns c =
     record {
       within = (omega arith, omega arith);
       rolls =
-          front-rolls x n c.args.samples.now (omega arith) (omega arith) c.loop-count.invariant.2
+          front_rolls x n c.args.samples.now (omega arith) (omega arith) c.loop-count.invariant.2
           (elim c.loop-count-test.branch [
             | then-loop-count-test+else-samples-count w ↦ front_other x n c.args.samples.now (omega arith) w.if-samples-count.false
             | else-loop-count-test w ↦ front_most x n c.args.samples.now (omega arith)

@@ -1,5 +1,5 @@
 use Rattle.std.proofs.Common.{arith}
-use Rattle.samples.proofs.Steps.{join_other, join_within, join-past}
+use Rattle.samples.proofs.Steps.{join_other, join_within, join_past}
 use Rattle.samples.proofs.run.Run.join.Goals as goal
 
 pub returns-then-next-self : goal.returns-then-next-self
@@ -9,4 +9,4 @@ pub returns-then-next-free : goal.returns-then-next-free
 returns-then-next-free c = join_within c.args.self c.args.next (omega arith) c.if-next-self.false
 
 pub returns : goal.returns
-returns c = join-past c.args.self c.args.next (omega arith) (omega arith) (omega arith) c.if-next-self.false
+returns c = join_past c.args.self c.args.next (omega arith) (omega arith) (omega arith) c.if-next-self.false

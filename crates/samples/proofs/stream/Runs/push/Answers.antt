@@ -1,7 +1,7 @@
 use Rattle.std.proofs.Common.{◌≡◌, ◌-◌, ◌++◌, length, set, replicate, vec_items, sym, ap, ◌∙◌, append-nil, arith}
 use Rattle.std.specs.Option.{option_to_list}
 use Rattle.samples.specs.Runs.{samples_of, rolled}
-use Rattle.samples.proofs.Appends.{last-replaced, last-counted, first_pushed, first_counted, first_or_none, rolled-again}
+use Rattle.samples.proofs.Appends.{last_replaced, last_counted, first_pushed, first_counted, first_or_none, rolled-again}
 use Rattle.samples.proofs.Wants.{not_extended}
 use Rattle.samples.proofs.stream.Runs.push.Goals as goal
 use Rattle.samples.proofs.stream.Runs.push.Goals.{After-index_mut, in-Some+in_ok-push-2, in_default}
@@ -35,7 +35,7 @@ pub returns-in_err-push-2 : goal.returns-in_err-push-2
 returns-in_err-push-2 c =
     let list = c.args.self.now.list in
     let more =
-    last-counted (vec_items list) (option_to_list c.join-rest.result.1) (c.len-runs.result - 1) c.index.result.now c.join-rest.result.0 _ c.args.self.now.packed
+    last_counted (vec_items list) (option_to_list c.join-rest.result.1) (c.len-runs.result - 1) c.index.result.now c.join-rest.result.0 _ c.args.self.now.packed
     (omega (arith, list.ok.0)) c.index.ensures c.join-rest.ensures in
     let one = ap (λ o. length (option_to_list o)) c.in-Some.is in
     record {
@@ -58,7 +58,7 @@ replaced :
     set c.match-rest.self.1.0.items (c.len-runs.result - 1) c.join-rest.result.0
     ≡ rolled (samples_of (vec_items c.args.self.now.list) ++ replicate c.args.run.count c.args.run.sample)
 replaced c =
-    last-replaced (vec_items c.args.self.now.list) _ (option_to_list c.join-rest.result.1) (c.len-runs.result - 1) c.index.result.now c.join-rest.result.0 _
+    last_replaced (vec_items c.args.self.now.list) _ (option_to_list c.join-rest.result.1) (c.len-runs.result - 1) c.index.result.now c.join-rest.result.0 _
     c.args.self.now.packed (omega (arith, c.args.self.now.list.ok.0)) c.index.ensures (grows c) c.join-rest.ensures
 
 pub invariant_of-self-2 : goal.invariant_of-self-2
