@@ -1,10 +1,9 @@
 -- Wherever inputs are cut, a machine comes to the same; and one step of a loop over its inputs. Assumes nothing.
-use Rattle.std.proofs.Common.{◌≡◌, ℕ, suc, ◌+◌, ◌*◌, ◌<◌, ◌≤◌, List, [], ◌∷◌, ◌++◌, map, length, get_or, drop, Some, None, Option, sym, refl, ap, ◌∙◌, append_assoc, suc-mul, arith, length-append}
+use Rattle.std.proofs.Common.{◌≡◌, ℕ, suc, ◌+◌, ◌*◌, ◌≤◌, List, [], ◌∷◌, ◌++◌, map, length, Some, None, Option, refl, ap, ◌∙◌, suc-mul, mul-le-mul_right, arith, length-append}
 use Rattle.std.specs.List.{flat_map}
 use Rattle.std.specs.Option.{option_map}
-use Rattle.std.proofs.lemmas.List.{at_drop_more, at_drop_all}
 use Rattle.decoder.specs.Machine.{run, before, outputs, counting, placing, outputs_at}
-use Rattle.decoder.specs.Reading.{MachineIsCut}
+use Rattle.decoder.specs.Reading.{numbers_read, MachineIsCut}
 
 before-append : {O : Type 0} (o : Option O) (xs ys : List O) → before o (xs ++ ys) ≡ before o xs ++ ys
 before-append None xs ys = refl
@@ -49,46 +48,30 @@ module _ {S X O : Type 0} (step : S → X → S) (emit : S → X → Option O) w
   pub machine_is_cut : MachineIsCut step emit
   machine_is_cut n s xs ys = (run-append step emit s xs ys, placed_append n s xs ys, unplaced n s xs)
 
--- NUMBERS
-
-module _ {O : Type 0} (encoded : O → List ℕ) where
-  pub joined-append : (os ps : List O) → flat_map encoded (os ++ ps) ≡ flat_map encoded os ++ flat_map encoded ps
-  joined-append [] ps = refl
-  joined-append (o ∷ os) ps =
-      ap (λ ns. encoded o ++ ns) (joined-append os ps) ∙ sym (append_assoc (encoded o) (flat_map encoded os) (flat_map encoded ps))
-
-  pub length-joined : (width : ℕ) → ((o : O) → length (encoded o) ≡ width) → (os : List O) → length (flat_map encoded os) ≡ length os * width
-  length-joined width sized [] = omega arith
-  length-joined width sized (o ∷ os) =
-      let on = length-joined width sized os in
-      length-append (encoded o) (flat_map encoded os) ∙ omega (arith, on, sized o, suc-mul (length os) width)
-
--- A LOOP'S STEP: what is left at i is one input, and then what is left at i + 1.
+-- HOW MANY
 
 module _ {S X O : Type 0} (step : S → X → S) (emit : S → X → Option O) where
-  pub run_more : (s : S) (xs : List X) (i : ℕ) (d : X) → i < length xs → run step s (drop i xs) ≡ run step (step s (get_or xs i d)) (drop (i + 1) xs)
-  run_more s xs i d h = at_drop_more (run step s) xs i d h
-
-  pub run-all : (s : S) (xs : List X) (i : ℕ) → length xs ≤ i → run step s (drop i xs) ≡ s
-  run-all s xs i h = at_drop_all (run step s) xs i h
-
-  -- a turn that left the state t and gave o
-  pub outputs-more :
-      (s t : S) (o : Option O) (xs : List X) (i : ℕ) (d : X) → i < length xs → t ≡ step s (get_or xs i d) → o ≡ emit s (get_or xs i d) →
-      outputs step emit s (drop i xs) ≡ before o (outputs step emit t (drop (i + 1) xs))
-  outputs-more s t o xs i d h e f = at_drop_more (outputs step emit s) xs i d h ∙ rw (← e, ← f)
-
-  pub outputs-all : (s : S) (xs : List X) (i : ℕ) → length xs ≤ i → outputs step emit s (drop i xs) ≡ []
-  outputs-all s xs i h = at_drop_all (outputs step emit s) xs i h
-
   -- at most one output at each input
   before-few : (o : Option O) (os : List O) → length (before o os) ≤ suc (length os)
   before-few None os = omega arith
   before-few (Some o) os = omega arith
 
-  pub outputs-few : (s : S) (xs : List X) → length (outputs step emit s xs) ≤ length xs
+  outputs-few : (s : S) (xs : List X) → length (outputs step emit s xs) ≤ length xs
   outputs-few s [] = omega arith
   outputs-few s (x ∷ xs) =
       let on = outputs-few (step s x) xs in
       let one = before-few (emit s x) (outputs step emit (step s x) xs) in
       omega (arith, on, one)
+
+pub length-joined : {O : Type 0} (encoded : O → List ℕ) (width : ℕ) → ((o : O) → length (encoded o) ≡ width) → (os : List O) → length (flat_map encoded os) ≡ length os * width
+length-joined encoded width sized [] = omega arith
+length-joined encoded width sized (o ∷ os) =
+    let on = length-joined encoded width sized os in
+    length-append (encoded o) (flat_map encoded os) ∙ omega (arith, on, sized o, suc-mul (length os) width)
+
+module _ {S O : Type 0} (step : S → ℕ → S) (emit : S → ℕ → Option O) (encoded : O → List ℕ) (width : ℕ) (sized : (o : O) → length (encoded o) ≡ width) where
+  pub length-numbers : (s : S) (xs : List ℕ) → length (numbers_read step emit encoded s xs) ≡ length (outputs step emit s xs) * width
+  length-numbers s xs = length-joined encoded width sized (outputs step emit s xs)
+
+  pub numbers-few : (s : S) (xs : List ℕ) → length (numbers_read step emit encoded s xs) ≤ length xs * width
+  numbers-few s xs = rw (length-numbers s xs) (mul-le-mul_right width (outputs-few step emit s xs))

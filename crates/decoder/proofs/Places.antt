@@ -2,7 +2,7 @@
 use Rattle.std.proofs.Common.{◌≡◌, ℕ, ◌+◌, ◌<◌, ◌≤◌, Bool, true, false, cond, ◌&&◌, ltb, leb, List, [], ◌∷◌, ◌++◌, length, Some, None, Option, refl, ap, ◌∙◌, arith}
 use Rattle.std.specs.Option.{option_map}
 use Rattle.std.proofs.lemmas.List.{append-nil}
-use Rattle.std.proofs.lemmas.Bool.{le-leb, lt-leb, lt-ltb, le-ltb, cond-true, cond-false, and_from}
+use Rattle.std.proofs.lemmas.Bool.{le-leb, lt-leb, lt-ltb, le-ltb, cond-true, cond-false, and_from, and_left, and_right}
 use Rattle.decoder.specs.Machine.{run, before, outputs_at, placed_within}
 use Rattle.decoder.proofs.Cut.{placed_append}
 
@@ -15,10 +15,6 @@ within_append p q [] ys = refl
 within_append p q (x ∷ xs) ys =
     ap (λ l. cond (leb p x.0 && ltb x.0 q) (x ∷ l) l) (within_append p q xs ys)
     ∙ one_append (leb p x.0 && ltb x.0 q) x (placed_within p q xs) (placed_within p q ys)
-
-right_false : (a : Bool) → (a && false) ≡ false
-right_false true = refl
-right_false false = refl
 
 module _ {S X O : Type 0} (step : S → X → S) (emit : S → X → Option O) (p q : ℕ) where
   one_within :
@@ -43,14 +39,14 @@ module _ {S X O : Type 0} (step : S → X → S) (emit : S → X → Option O) (
   too_early n s [] early = refl
   too_early n s (x ∷ xs) early =
       let out : leb p n ≡ false = lt-leb p n (omega arith) in
-      one_outside n (emit s x) (outputs_at step emit (n + 1) (step s x) xs) (ap (λ b. b && ltb n q) out) ∙ too_early (n + 1) (step s x) xs (omega arith)
+      one_outside n (emit s x) (outputs_at step emit (n + 1) (step s x) xs) (and_left _ _ out) ∙ too_early (n + 1) (step s x) xs (omega arith)
 
   -- inputs from q on
   too_late : (n : ℕ) (s : S) (xs : List X) → q ≤ n → placed_within p q (outputs_at step emit n s xs) ≡ []
   too_late n s [] late = refl
   too_late n s (x ∷ xs) late =
       let out : ltb n q ≡ false = le-ltb n q late in
-      one_outside n (emit s x) (outputs_at step emit (n + 1) (step s x) xs) (ap (λ b. leb p n && b) out ∙ right_false (leb p n))
+      one_outside n (emit s x) (outputs_at step emit (n + 1) (step s x) xs) (and_right _ _ out)
       ∙ too_late (n + 1) (step s x) xs (omega arith)
 
 -- the outputs within a piece are those of the machine as it came to the piece

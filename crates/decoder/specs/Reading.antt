@@ -1,22 +1,20 @@
 -- What reading on from a lent memory answers, and what the memory and the room hold afterwards. Assumes nothing: these are definitions and statements.
 use Rattle.std.specs.Prelude.{◌≡◌, ℕ, ◌+◌, ◌*◌, ◌≤◌, cond, List, [], ◌++◌, map, length, take, Ok, Err, Option, Result, ◌≢◌, nat_le}
 use Rattle.std.specs.List.{flat_map}
-use Rattle.samples.specs.declared.answer.Done.{Done}
-use Rattle.samples.specs.declared.answer.Done.TheVariants.{Read, Waiting, Refused}
-use Rattle.samples.specs.declared.answer.Refusal.{Refusal}
-use Rattle.samples.specs.declared.answer.Refusal.TheVariants.{Memory, Samples, Room}
+use Rattle.samples.specs.declared.refusal.Refusal.{Refusal}
+use Rattle.samples.specs.declared.refusal.Refusal.TheVariants.{Memory, Samples, Room}
 use Rattle.samples.specs.Roll.{filled}
 use Rattle.decoder.specs.Machine.{run, outputs, outputs_at}
 
 -- after a call: its answer, and what the memory and the room hold
 pub record After : Type 0 where
-  pub answer : Done
+  pub answer : Result ℕ Refusal
   pub memory : List ℕ
   pub room : List ℕ
 
 -- a refusal changes nothing
 abbrev pub refused : Refusal → (memory room : List ℕ) → After
-refused f memory room = record { answer = Refused f; memory = memory; room = room }
+refused f memory room = record { answer = Err f; memory = memory; room = room }
 
 module _ {S O : Type 0} (step : S → ℕ → S) (emit : S → ℕ → Option O) (encoded : O → List ℕ) where
   -- the numbers of all outputs, in order
@@ -28,7 +26,7 @@ module _ {S O : Type 0} (step : S → ℕ → S) (emit : S → ℕ → Option O)
   abbrev pub read_all : S → (samples room : List ℕ) → After
   read_all s samples room =
       record {
-        answer = Read (length (outputs step emit s samples));
+        answer = Ok (length (outputs step emit s samples));
         memory = saved (run step s samples);
         room = filled (numbers_read step emit encoded s samples) room;
       }
@@ -45,30 +43,29 @@ module _ {S O : Type 0} (step : S → ℕ → S) (emit : S → ℕ → Option O)
       cond (nat_le (length samples) 65535) (read_from s samples memory room) (refused (Samples 65535) memory room)
 
 -- the numbers that a call left in its room, so many for each output
-abbrev pub numbers_given : (width : ℕ) → Done → (room : List ℕ) → List ℕ
-numbers_given width (Read n) room = take (n * width) room
-numbers_given width Waiting room = []
-numbers_given width (Refused f) room = []
+abbrev pub numbers_given : (width : ℕ) → Result ℕ Refusal → (room : List ℕ) → List ℕ
+numbers_given width (Ok n) room = take (n * width) room
+numbers_given width (Err f) room = []
 
 -- WHEREVER SAMPLES ARE CUT, THE SAME IS READ, of a call that gives so many numbers for each output.
 module _ (width : ℕ) (call : (samples memory room : List ℕ) → After) where
   -- Of two calls, the second with the memory that the first left, and of one call over the joined samples: all that the two read, the one reads, and it leaves the same memory.
   abbrev pub TwoReadAsOne : Type 0
   TwoReadAsOne =
-      (xs ys memory room₁ room₂ room : List ℕ) (n m : ℕ) → (call xs memory room₁).answer ≡ Read n → (call ys (call xs memory room₁).memory room₂).answer ≡ Read m →
+      (xs ys memory room₁ room₂ room : List ℕ) (n m : ℕ) → (call xs memory room₁).answer ≡ Ok n → (call ys (call xs memory room₁).memory room₂).answer ≡ Ok m →
       length (xs ++ ys) ≤ 65535 → (n + m) * width ≤ length room →
       call (xs ++ ys) memory room
       ≡ record {
-        answer = Read (n + m);
+        answer = Ok (n + m);
         memory = (call ys (call xs memory room₁).memory room₂).memory;
-        room = filled (numbers_given width (Read n) (call xs memory room₁).room ++ numbers_given width (Read m) (call ys (call xs memory room₁).memory room₂).room) room;
+        room = filled (numbers_given width (Ok n) (call xs memory room₁).room ++ numbers_given width (Ok m) (call ys (call xs memory room₁).memory room₂).room) room;
       }
 
   -- And the memory that a call left is taken back, whatever is read with it.
   abbrev pub LeftIsTakenBack : Type 0
   LeftIsTakenBack =
-      (xs ys memory room₁ room₂ : List ℕ) (n place : ℕ) → (call xs memory room₁).answer ≡ Read n →
-      (call ys (call xs memory room₁).memory room₂).answer ≢ Refused (Memory place)
+      (xs ys memory room₁ room₂ : List ℕ) (n place : ℕ) → (call xs memory room₁).answer ≡ Ok n →
+      (call ys (call xs memory room₁).memory room₂).answer ≢ Err (Memory place)
 
   abbrev pub CutIsRead : Type 0
   CutIsRead = TwoReadAsOne × LeftIsTakenBack

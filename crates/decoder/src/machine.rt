@@ -1,6 +1,8 @@
-//! A decoder is a machine over samples, and its state is its own model.
-ghost use Rattle.std.specs.Prelude.{◌≡◌, ℕ, ◌≤◌, List, length, Ok as Good, Option, Result};
+//! A decoder is a machine over samples, and can be kept in a lent memory.
+ghost use Rattle.std.specs.Prelude.{◌≡◌, ℕ, ◌≤◌, List, length, Ok, MatchResult, Option, Result};
 ghost use Rattle.samples.specs.Roll.{filled};
+
+use crate::memory::BadMemory;
 
 /// Takes one input after the other, and may give an output at each.
 pub trait Machine: Copy {
@@ -8,68 +10,68 @@ pub trait Machine: Copy {
 
     type Output: Copy;
 
-    /// Holds of the states that it can be in.
-    ghost sound: { Self → Type 0 };
+    /// What it remembers, and by which settings it goes on.
+    type State;
+
+    /// The state that it is in.
+    ghost state: { Self → Self.State };
 
     /// The state after an input.
-    ghost step: { Self → Self.Input → Self };
+    ghost step: { Self.State → Self.Input → Self.State };
 
     /// The output at an input.
-    ghost emit: { Self → Self.Input → Option Self.Output };
+    ghost emit: { Self.State → Self.Input → Option Self.Output };
 
-    /// A sound state goes on to a sound one.
-    ghost keeps: { (s : Self) (x : Self.Input) → sound s → sound (step s x) };
-
+    /// Goes on by an input.
     fn feed(self, input: Self::Input) -> (Self, Option<Self::Output>)
-        requires { sound self }
-        ensures next { result.0 ≡ step self input }
-        ensures output { result.1 ≡ emit self input };
+        ensures next { state result.0 ≡ step (state self) input }
+        ensures output { result.1 ≡ emit (state self) input };
+
+    /// After an input it is a machine again.
+    ghost goes_on: { (m : Self) (x : Self.Input) → (n : Self) × (state n ≡ step (state m) x) };
 }
 
-/// Reads samples, and can be kept in a lent memory.
+/// Reads samples, and can be kept in a lent memory. Its rules are members one by one, since `step` and `emit` belong to every machine.
 pub trait Decoder: Machine<Input = u16> {
-    /// An output as numbers, and how many these are.
-    ghost encoded: { Self.Output → List ℕ };
+    /// How many numbers an output has.
+    const WIDTH: usize;
 
-    ghost width: { ℕ };
+    ghost WIDTH: { ℕ };
+
+    /// An output as numbers.
+    ghost encoded: { Self.Output → List ℕ };
 
     /// How many numbers a memory has.
     ghost size: { ℕ };
 
     /// The memory that a state leaves.
-    ghost saved: { Self → List ℕ };
+    ghost saved: { Self.State → List ℕ };
 
-    /// The state that a memory stands for, with the settings of a reader; or the place at which no reader leaves such a memory.
-    ghost restored: { Self → List ℕ → Result Self ℕ };
-
-    /// How many numbers an output has.
-    fn width() -> usize
-        ensures { result ≡ width };
+    /// The state that a memory stands for, with the settings of another; or the place at which no reader leaves such a memory.
+    ghost restored: { Self.State → List ℕ → Result Self.State ℕ };
 
     /// Writes an output into the free part of a room.
     fn encode(output: Self::Output, free: &mut [u64])
-        requires { width ≤ length free.old }
+        requires { WIDTH ≤ length free.old }
         ensures { free.new ≡ filled (encoded output) free.old };
 
     /// The reader that a memory stands for.
-    fn restore(self, memory: &[u64]) -> Result<Self, u64>
-        requires { Self.Machine.sound self }
-        ensures { result ≡ restored self memory.now };
+    fn restore(self, memory: &[u64]) -> Result<Self, BadMemory>
+        ensures { MatchResult result (λ reader. restored (Self.state self) memory.now ≡ Ok (Self.state reader)) (λ bad. restored (Self.state self) memory.now ≡ Err bad.0) };
 
     /// Leaves the reader in a memory.
     fn save(self, memory: &mut [u64])
-        requires sound { Self.Machine.sound self }
-        requires long { length memory.old ≡ size }
-        ensures { memory.new ≡ saved self };
+        requires { length memory.old ≡ size }
+        ensures { memory.new ≡ saved (Self.state self) };
 
-    ghost sized: { (o : Self.Output) → length (encoded o) ≡ width };
+    ghost sized: { (o : Self.Output) → length (encoded o) ≡ WIDTH };
 
-    /// What is restored is sound, and has the settings that were asked for.
-    ghost opens: { (s t : Self) (m : List ℕ) → Self.Machine.sound s → restored s m ≡ Good t → Self.Machine.sound t × (length m ≡ size) × ((n : List ℕ) → restored t n ≡ restored s n) };
+    /// What is restored is a reader's state, and has the settings that were asked for.
+    ghost opens: { (r : Self) (s : Self.State) (m : List ℕ) → restored (Self.state r) m ≡ Ok s → ((q : Self) × (Self.state q ≡ s)) × (length m ≡ size) × ((n : List ℕ) → restored s n ≡ restored (Self.state r) n) };
 
     /// What is saved is restored as it was.
-    ghost back: { (s : Self) → Self.Machine.sound s → restored s (saved s) ≡ Good s };
+    ghost back: { (r : Self) → restored (Self.state r) (saved (Self.state r)) ≡ Ok (Self.state r) };
 
     /// A sample changes no setting.
-    ghost same: { (s : Self) (x : ℕ) (m : List ℕ) → restored (Self.Machine.step s x) m ≡ restored s m };
+    ghost same: { (s : Self.State) (x : ℕ) (m : List ℕ) → restored (Self.step s x) m ≡ restored s m };
 }

@@ -1,17 +1,13 @@
 //! Headers of texts.
 use readout::{Settings, read_header};
-use std::test::Fail;
 
 /// Whether a text begins with the header of these settings and goes on so.
 fn reads(text: &[u8], settings: Settings, after: &[u8]) -> bool {
-    match read_header(text) {
-        Some((read, rest)) => read == settings && rest == after,
-        None => false,
-    }
+    read_header(text).is_some_and(|(read, rest)| read == settings && rest == after)
 }
 
 #[test]
-fn headers_are_read_with_what_follows(rt: HostRuntime) -> Result<(), Fail> {
+fn headers_are_read_with_what_follows(rt: HostRuntime) {
     let header = Settings::Serial { line: 3, bit: 104 };
     assert!(rt; reads(b"serial line 3 bit 104\n7 3\n", header, b"7 3\n"));
     assert!(rt; reads(b"serial line 3 bit 104\n", header, b""));
@@ -22,16 +18,11 @@ fn headers_are_read_with_what_follows(rt: HostRuntime) -> Result<(), Fail> {
         bit: 1_000_000,
     };
     assert!(rt; reads(b"serial line 0 bit 1000000\n", large, b""));
-    match read_header(b"serial line 99999999999 bit 1000001") {
-        Some((Settings::Serial { line, bit }, _)) => {
-            assert!(rt; line > 1_000_000 && bit > 1_000_000);
-            Ok(())
-        },
-        None => {
-            assert!(rt; false);
-            Ok(())
-        },
-    }
+    let largest = read_header(b"serial line 99999999999 bit 1000001");
+    assert!(rt;
+        largest.is_some_and(|(Settings::Serial { line, bit }, _)| line > 1_000_000
+            && bit > 1_000_000)
+    );
 }
 
 #[test]

@@ -5,11 +5,8 @@ use samples::Refusal;
 use std::alloc::Global;
 
 /// Whether a text is listed so.
-fn lists(heap: Global, text: &[u8], listing: &str) -> bool {
-    match decode_text(heap, text) {
-        Ok(out) => out.as_str() == listing,
-        Err(_) => false,
-    }
+fn lists(alloc: Global, text: &[u8], listing: &str) -> bool {
+    decode_text(alloc, text).is_ok_and(|out| out.as_str() == listing)
 }
 
 #[test]
@@ -72,9 +69,7 @@ fn texts_are_refused_in_order(rt: HostRuntime) {
         ),
     ];
     for (text, refusal) in cases {
-        match decode_text(rt.alloc(), text) {
-            Ok(_) => assert!(rt; false),
-            Err(failure) => assert_eq!(rt; failure, Failure::Refused(refusal)),
-        }
+        let out = decode_text(rt.alloc(), text);
+        assert!(rt; out.is_err_and(|failure| failure == Failure::Refused(refusal)));
     }
 }

@@ -1,7 +1,7 @@
 //! Pseudo-random numbers for tests.
 ghost use Rattle.std.specs.Prelude.{◌≤◌};
 
-/// A linear congruence.
+/// A linear congruence. Not one with that of `trials`, whose constants differ: tests keep the numbers that they try.
 #[derive(Clone, Copy)]
 pub struct Random(pub u32);
 

@@ -1,5 +1,5 @@
 //! Serial lines, read from a lent memory into a lent room.
-use samples::{Done, Refusal};
+use samples::Refusal;
 use std::alloc::{AllocError, Global};
 use std::test::Fail;
 
@@ -7,26 +7,24 @@ use std::test::Fail;
 const FRESH: [u64; 5] = [0, 1, 0, 0, 0];
 
 /// Samples with the levels of a text on line 0, and on line 9 the opposite. Only 0 and 1 are levels.
-fn levels(heap: Global, text: &[u8]) -> Result<Vec<u16>, AllocError> {
-    let mut samples = Vec::new(heap);
-    for level in text {
-        match *level {
-            b'0' => samples.push(0x200)?,
-            b'1' => samples.push(1)?,
-            _ => {}
-        }
-    }
-    Ok(samples)
+fn levels(alloc: Global, text: &[u8]) -> Result<Vec<u16>, AllocError> {
+    text.iter()
+        .filter_map(|level| match *level {
+            b'0' => Some(0x200),
+            b'1' => Some(1),
+            _ => None,
+        })
+        .collect(alloc)
 }
 
 /// Whether just these numbers are read by a fresh reader, into just so much room.
-fn reads(heap: Global, bit: u64, text: &[u8], numbers: &[u64]) -> Result<bool, AllocError> {
-    let samples = levels(heap, text)?;
+fn reads(alloc: Global, bit: u64, text: &[u8], numbers: &[u64]) -> Result<bool, AllocError> {
+    let samples = levels(alloc, text)?;
     let mut memory = FRESH;
-    let mut room = vec![in heap; 9u64; numbers.len()]?;
+    let mut room = vec![in alloc; 9u64; numbers.len()]?;
     let done = uart::serial(bit, 0, samples.as_slice(), &mut memory, room.as_mut_slice());
     let words = (numbers.len() / 2) as u64;
-    Ok(done == Done::Read(words) && room.as_slice() == numbers)
+    Ok(done == Ok(words) && room.as_slice() == numbers)
 }
 
 #[test]
@@ -80,16 +78,15 @@ fn every_cut_reads_the_same(rt: HostRuntime) -> Result<(), Fail> {
         let (first, second) = samples.as_slice().split_at(cut.min(samples.len()));
         let mut memory = FRESH;
         let mut room = [9u64; 4];
-        let words = match uart::serial(4, 0, first, &mut memory, &mut room) {
-            Done::Read(words) => words.min(2),
-            _ => 0,
-        };
+        let words = uart::serial(4, 0, first, &mut memory, &mut room)
+            .unwrap_or(0)
+            .min(2);
         // Look 9 of the bytes is at 38 and 78.
         assert_eq!(rt; words, u64::from(cut > 38) + u64::from(cut > 78));
         let rest = &mut room[2 * words as usize..];
         assert_eq!(rt;
             uart::serial(4, 0, second, &mut memory, rest),
-            Done::Read(2 - words)
+            Ok(2 - words)
         );
         assert_eq!(rt; room, [0, 65, 0, 193]);
         assert_eq!(rt; memory, FRESH);
@@ -99,14 +96,14 @@ fn every_cut_reads_the_same(rt: HostRuntime) -> Result<(), Fail> {
 
 /// What a call answers, where it leaves its memory as it was, and a room of nines.
 fn unchanged(
-    heap: Global,
+    alloc: Global,
     (bit, line): (u64, u64),
     samples: &[u16],
     memory: &[u64],
     room: usize,
-) -> Result<Option<Done>, AllocError> {
-    let nines = vec![in heap; 9u64; room]?;
-    let mut lent_memory = Vec::from_slice(heap, memory)?;
+) -> Result<Option<Result<u64, Refusal>>, AllocError> {
+    let nines = vec![in alloc; 9u64; room]?;
+    let mut lent_memory = Vec::from_slice(alloc, memory)?;
     let mut lent_room = nines.clone()?;
     let done = uart::serial(
         bit,
@@ -116,7 +113,7 @@ fn unchanged(
         lent_room.as_mut_slice(),
     );
     let same = lent_memory.as_slice() == memory && lent_room.as_slice() == nines.as_slice();
-    Ok(if same { Some(done) } else { None })
+    Ok(same.then_some(done))
 }
 
 /// Memories at the edges of what is taken, where a bit is 4 samples.
@@ -133,10 +130,10 @@ const TAKEN: [[u64; 5]; 8] = [
 
 #[test]
 fn memories_are_taken_or_refused(rt: HostRuntime) -> Result<(), Fail> {
-    let heap = rt.alloc();
+    let alloc = rt.alloc();
     for memory in TAKEN {
-        let done = unchanged(heap, (4, 0), &[], &memory, 3)?;
-        assert_eq!(rt; done, Some(Done::Read(0)));
+        let done = unchanged(alloc, (4, 0), &[], &memory, 3)?;
+        assert_eq!(rt; done, Some(Ok(0)));
     }
     let refused: [(&[u64], u64); 20] = [
         (&[], 0),
@@ -161,8 +158,8 @@ fn memories_are_taken_or_refused(rt: HostRuntime) -> Result<(), Fail> {
         (&[0, 1, 4, 10, 256], 2),
     ];
     for (memory, place) in refused {
-        let done = unchanged(heap, (4, 0), &[0, 1], memory, 3)?;
-        assert_eq!(rt; done, Some(Done::Refused(Refusal::Memory(place))));
+        let done = unchanged(alloc, (4, 0), &[0, 1], memory, 3)?;
+        assert_eq!(rt; done, Some(Err(Refusal::Memory(place))));
     }
     Ok(())
 }
@@ -170,15 +167,15 @@ fn memories_are_taken_or_refused(rt: HostRuntime) -> Result<(), Fail> {
 #[test]
 fn settings_are_taken_or_refused(rt: HostRuntime) -> Result<(), Fail> {
     let cases = [
-        (0, 0, Done::Refused(Refusal::Setting(0))),
-        (1, 0, Done::Refused(Refusal::Setting(0))),
-        (2, 0, Done::Read(0)),
-        (1_000_000, 15, Done::Read(0)),
-        (1_000_001, 0, Done::Refused(Refusal::Setting(0))),
-        (0x1_0000_0002, 0, Done::Refused(Refusal::Setting(0))),
-        (2, 15, Done::Read(0)),
-        (2, 16, Done::Refused(Refusal::Setting(1))),
-        (2, 0x1_0000_0000, Done::Refused(Refusal::Setting(1))),
+        (0, 0, Err(Refusal::Setting(0))),
+        (1, 0, Err(Refusal::Setting(0))),
+        (2, 0, Ok(0)),
+        (1_000_000, 15, Ok(0)),
+        (1_000_001, 0, Err(Refusal::Setting(0))),
+        (0x1_0000_0002, 0, Err(Refusal::Setting(0))),
+        (2, 15, Ok(0)),
+        (2, 16, Err(Refusal::Setting(1))),
+        (2, 0x1_0000_0000, Err(Refusal::Setting(1))),
     ];
     for (bit, line, done) in cases {
         assert_eq!(rt;
@@ -190,11 +187,11 @@ fn settings_are_taken_or_refused(rt: HostRuntime) -> Result<(), Fail> {
     let memory = [1, 0, 999_999, 9, 255];
     assert_eq!(rt;
         unchanged(rt.alloc(), (1_000_000, 15), &[], &memory, 0)?,
-        Some(Done::Read(0))
+        Some(Ok(0))
     );
     assert_eq!(rt;
         unchanged(rt.alloc(), (999_999, 15), &[], &memory, 0)?,
-        Some(Done::Refused(Refusal::Memory(2)))
+        Some(Err(Refusal::Memory(2)))
     );
     Ok(())
 }
@@ -206,13 +203,13 @@ fn room_and_samples_have_limits(rt: HostRuntime) -> Result<(), Fail> {
     let mut room = [9u64; 2];
     assert_eq!(rt;
         uart::serial(4, 15, low.as_slice(), &mut memory, &mut room[0..1]),
-        Done::Refused(Refusal::Room(1))
+        Err(Refusal::Room(1))
     );
     assert_eq!(rt; room, [9, 9]);
     assert_eq!(rt; memory, FRESH);
     assert_eq!(rt;
         uart::serial(4, 15, low.as_slice(), &mut memory, &mut room),
-        Done::Read(1)
+        Ok(1)
     );
     assert_eq!(rt; room, [1, 0]);
     assert_eq!(rt; memory, [0, 0, 0, 0, 0]);
@@ -221,8 +218,8 @@ fn room_and_samples_have_limits(rt: HostRuntime) -> Result<(), Fail> {
 
 #[test]
 fn refusals_come_in_order(rt: HostRuntime) -> Result<(), Fail> {
-    let heap = rt.alloc();
-    let more = vec![in heap; 0u16; 65536]?;
+    let alloc = rt.alloc();
+    let more = vec![in alloc; 0u16; 65536]?;
     let all = more.as_slice();
     let most = &all[0..all.len().min(65535)];
     let broken: &[u64] = &[2, 1, 0, 0, 0];
@@ -235,8 +232,8 @@ fn refusals_come_in_order(rt: HostRuntime) -> Result<(), Fail> {
         (4, 15, fresh, most, Refusal::Room(1)),
     ];
     for (bit, line, memory, samples, refusal) in cases {
-        let done = unchanged(heap, (bit, line), samples, memory, 1)?;
-        assert_eq!(rt; done, Some(Done::Refused(refusal)));
+        let done = unchanged(alloc, (bit, line), samples, memory, 1)?;
+        assert_eq!(rt; done, Some(Err(refusal)));
     }
     Ok(())
 }

@@ -1,14 +1,15 @@
 //! Streams of samples that are handed over in pieces.
 use crate::random::Random;
-use samples::{Done, Run, Runs, roll};
+use samples::{Refusal, Run, Runs, roll};
 use std::alloc::{AllocError, Global};
+use std::iter::repeat_n;
 use std::test::Fail;
 
 #[test]
 fn long_streams_are_parted_at_65535(rt: HostRuntime) -> Result<(), Fail> {
-    let heap = rt.alloc();
-    let samples = vec![in heap; 7u16; 65536]?;
-    let mut runs = Runs::new(heap);
+    let alloc = rt.alloc();
+    let samples = vec![in alloc; 7u16; 65536]?;
+    let mut runs = Runs::new(alloc);
     assert!(rt; runs.as_slice().is_empty());
     runs.extend(samples.as_slice())?;
     let full = Run {
@@ -60,14 +61,14 @@ fn equal_neighbours_are_joined(rt: HostRuntime) -> Result<(), Fail> {
 
 #[test]
 fn streams_have_any_length(rt: HostRuntime) -> Result<(), Fail> {
-    let heap = rt.alloc();
-    let mut runs = Runs::new(heap);
+    let alloc = rt.alloc();
+    let mut runs = Runs::new(alloc);
     for i in 0..100_000u32 {
         let sample = (i % 2) as u16;
         runs.push(Run { sample, count: 3 })?;
     }
     assert_eq!(rt; runs.as_slice().len(), 100_000);
-    let zeros = vec![in heap; 0u16; 1_000_000]?;
+    let zeros = vec![in alloc; 0u16; 1_000_000]?;
     runs.extend(zeros.as_slice())?;
     // 1,000,000 is 15 times 65,535 and 16,975 more.
     assert_eq!(rt; runs.as_slice().len(), 100_016);
@@ -75,20 +76,18 @@ fn streams_have_any_length(rt: HostRuntime) -> Result<(), Fail> {
 }
 
 /// A stream of few different samples, so that runs are common.
-fn stream(heap: Global, random: &mut Random) -> Result<Vec<u16>, AllocError> {
-    let mut samples = Vec::new(heap);
+fn stream(alloc: Global, random: &mut Random) -> Result<Vec<u16>, AllocError> {
+    let mut samples = Vec::new(alloc);
     for _ in 0..random.up_to(40) {
         let sample = random.up_to(2);
-        for _ in 0..random.up_to(9) {
-            samples.push(sample)?;
-        }
+        samples.extend(repeat_n(sample, usize::from(random.up_to(9))))?;
     }
     Ok(samples)
 }
 
 /// The stream, cut at random places and handed over as samples or as runs.
-fn cut(heap: Global, random: &mut Random, samples: &[u16]) -> Result<Runs, AllocError> {
-    let mut runs = Runs::new(heap);
+fn cut(alloc: Global, random: &mut Random, samples: &[u16]) -> Result<Runs, AllocError> {
+    let mut runs = Runs::new(alloc);
     let mut left = samples;
     for _ in 0..samples.len() {
         let end = usize::from(random.up_to(7)).min(left.len());
@@ -110,41 +109,32 @@ fn cut(heap: Global, random: &mut Random, samples: &[u16]) -> Result<Runs, Alloc
 }
 
 /// The samples of runs, one after the other.
-fn unrolled(heap: Global, runs: &[Run]) -> Result<Vec<u16>, AllocError> {
-    let mut samples = Vec::new(heap);
+fn unrolled(alloc: Global, runs: &[Run]) -> Result<Vec<u16>, AllocError> {
+    let mut samples = Vec::new(alloc);
     for run in runs {
-        for _ in 0..run.count {
-            samples.push(run.sample)?;
-        }
+        samples.extend(repeat_n(run.sample, usize::from(run.count)))?;
     }
     Ok(samples)
 }
 
 /// How many runs a stream of less than 65,536 samples has to come to.
 fn changes(samples: &[u16]) -> usize {
-    let mut runs = 0usize;
-    let mut before = None;
-    for sample in samples {
-        if before != Some(*sample) {
-            runs = runs.saturating_add(1);
-        }
-        before = Some(*sample);
-    }
-    runs
+    let others = samples.windows(2).filter(|pair| pair[0] != pair[1]).count();
+    usize::from(!samples.is_empty()).saturating_add(others)
 }
 
 #[test]
 fn any_cut_gives_the_same_fewest_runs(rt: HostRuntime) -> Result<(), Fail> {
-    let heap = rt.alloc();
+    let alloc = rt.alloc();
     let mut random = Random(1);
     for _ in 0..300 {
-        let samples = stream(heap, &mut random)?;
-        let mut whole = Runs::new(heap);
+        let samples = stream(alloc, &mut random)?;
+        let mut whole = Runs::new(alloc);
         whole.extend(samples.as_slice())?;
-        let pieces = cut(heap, &mut random, samples.as_slice())?;
+        let pieces = cut(alloc, &mut random, samples.as_slice())?;
         assert!(rt; whole.as_slice() == pieces.as_slice());
         assert_eq!(rt; whole.as_slice().len(), changes(samples.as_slice()));
-        let back = unrolled(heap, whole.as_slice())?;
+        let back = unrolled(alloc, whole.as_slice())?;
         assert!(rt; back.as_slice() == samples.as_slice());
     }
     Ok(())
@@ -152,27 +142,24 @@ fn any_cut_gives_the_same_fewest_runs(rt: HostRuntime) -> Result<(), Fail> {
 
 #[test]
 fn a_piece_rolls_up_as_a_stream_does(rt: HostRuntime) -> Result<(), Fail> {
-    let heap = rt.alloc();
+    let alloc = rt.alloc();
     let mut random = Random(2);
     for _ in 0..300 {
-        let samples = stream(heap, &mut random)?;
-        let mut runs = Runs::new(heap);
+        let samples = stream(alloc, &mut random)?;
+        let mut runs = Runs::new(alloc);
         runs.extend(samples.as_slice())?;
-        let mut room = vec![in heap; 9u16; samples.len()]?;
-        let mut numbers = Vec::new(heap);
+        let mut room = vec![in alloc; 9u16; samples.len()]?;
+        let mut numbers = Vec::new(alloc);
         for run in runs.as_slice() {
             numbers.push(run.sample)?;
             numbers.push(run.count)?;
         }
         let answer = roll(samples.as_slice(), room.as_mut_slice());
         if numbers.len() <= room.len() {
-            assert_eq!(rt; answer, Done::Read(runs.as_slice().len() as u64));
+            assert_eq!(rt; answer, Ok(runs.as_slice().len() as u64));
             assert!(rt; room.as_slice().starts_with(numbers.as_slice()));
         } else {
-            assert_eq!(rt;
-                answer,
-                Done::Refused(samples::Refusal::Room(room.len() as u64))
-            );
+            assert_eq!(rt; answer, Err(Refusal::Room(room.len() as u64)));
         }
     }
     Ok(())
@@ -180,10 +167,10 @@ fn a_piece_rolls_up_as_a_stream_does(rt: HostRuntime) -> Result<(), Fail> {
 
 #[test]
 fn runs_of_one_sample_are_as_few_as_their_sum_asks(rt: HostRuntime) -> Result<(), Fail> {
-    let heap = rt.alloc();
+    let alloc = rt.alloc();
     let mut random = Random(3);
     for _ in 0..100 {
-        let mut runs = Runs::new(heap);
+        let mut runs = Runs::new(alloc);
         let mut sum = 0u64;
         for _ in 0..random.up_to(9) {
             let count = random.up_to(u16::MAX);

@@ -1,36 +1,33 @@
 //! Captures as text.
 use crate::random::Random;
-use formats::{Failure, compact, read_capture, read_capture_below, write_capture};
+use formats::{Failure, compact, read_capture, write_capture};
 use samples::{Refusal, Run, Runs};
 use std::alloc::{AllocError, Global};
 use std::test::Fail;
 
 /// Whether a text is compacted to another.
-fn becomes(heap: Global, text: &[u8], out: &[u8]) -> bool {
-    match compact(heap, text) {
-        Ok(written) => written.as_slice() == out,
-        Err(_) => false,
-    }
+fn becomes(alloc: Global, text: &[u8], out: &str) -> bool {
+    compact(alloc, text).is_ok_and(|written| written.as_str() == out)
 }
 
 #[test]
 fn texts_are_compacted(rt: HostRuntime) {
-    let heap = rt.alloc();
-    assert!(rt; becomes(heap, b"", b""));
-    assert!(rt; becomes(heap, b"7 3", b"7 3\n"));
-    assert!(rt; becomes(heap, b"7 1\n7 2\n2 2\n7 1\n", b"7 3\n2 2\n7 1\n"));
-    assert!(rt; becomes(heap, b"007 0003\n", b"7 3\n"));
-    assert!(rt; becomes(heap, b"0 1\n65535 65535\n", b"0 1\n65535 65535\n"));
-    assert!(rt; becomes(heap, b"7 65535\n7 65535\n7 1\n", b"7 65535\n7 65535\n7 1\n"));
-    assert!(rt; becomes(heap, b"7 40000\n7 40000\n", b"7 65535\n7 14465\n"));
+    let alloc = rt.alloc();
+    assert!(rt; becomes(alloc, b"", ""));
+    assert!(rt; becomes(alloc, b"7 3", "7 3\n"));
+    assert!(rt; becomes(alloc, b"7 1\n7 2\n2 2\n7 1\n", "7 3\n2 2\n7 1\n"));
+    assert!(rt; becomes(alloc, b"007 0003\n", "7 3\n"));
+    assert!(rt; becomes(alloc, b"0 1\n65535 65535\n", "0 1\n65535 65535\n"));
+    assert!(rt; becomes(alloc, b"7 65535\n7 65535\n7 1\n", "7 65535\n7 65535\n7 1\n"));
+    assert!(rt; becomes(alloc, b"7 40000\n7 40000\n", "7 65535\n7 14465\n"));
 }
 
 #[test]
 fn runs_are_written_and_read_back(rt: HostRuntime) -> Result<(), Fail> {
-    let heap = rt.alloc();
-    let mut runs = Runs::new(heap);
-    let none = write_capture(heap, &runs)?;
-    assert!(rt; none.as_slice() == b"".as_slice());
+    let alloc = rt.alloc();
+    let mut runs = Runs::new(alloc);
+    let none = write_capture(alloc, &runs)?;
+    assert!(rt; none.as_str() == "");
     for (sample, count) in [
         (0, 1),
         (9, 10),
@@ -41,26 +38,21 @@ fn runs_are_written_and_read_back(rt: HostRuntime) -> Result<(), Fail> {
     ] {
         runs.push(Run { sample, count })?;
     }
-    let text = write_capture(heap, &runs)?;
-    assert!(rt;
-        text.as_slice() == b"0 1\n9 10\n99 100\n999 1000\n9999 10000\n65535 65535\n".as_slice()
-    );
-    let back = read_capture(heap, text.as_slice())?;
+    let text = write_capture(alloc, &runs)?;
+    assert!(rt; text.as_str() == "0 1\n9 10\n99 100\n999 1000\n9999 10000\n65535 65535\n");
+    let back = read_capture(alloc, 0, text.as_bytes())?;
     assert!(rt; back.as_slice() == runs.as_slice());
     Ok(())
 }
 
 /// Whether a text is refused so.
-fn refuses(heap: Global, text: &[u8], refusal: Refusal) -> bool {
-    match compact(heap, text) {
-        Ok(_) => false,
-        Err(failure) => failure == Failure::Refused(refusal),
-    }
+fn refuses(alloc: Global, text: &[u8], refusal: Refusal) -> bool {
+    compact(alloc, text).is_err_and(|failure| failure == Failure::Refused(refusal))
 }
 
 #[test]
 fn lines_that_are_none_are_refused(rt: HostRuntime) -> Result<(), Fail> {
-    let heap = rt.alloc();
+    let alloc = rt.alloc();
     let lines: [&[u8]; 22] = [
         b"\n",
         b" \n",
@@ -86,33 +78,37 @@ fn lines_that_are_none_are_refused(rt: HostRuntime) -> Result<(), Fail> {
         b"65536 0",
     ];
     for line in lines {
-        assert!(rt; refuses(heap, line, Refusal::Text(0)));
-        let mut text = Vec::from_slice(heap, b"1 1\n2 2\n")?;
+        assert!(rt; refuses(alloc, line, Refusal::Text(0)));
+        let mut text = Vec::from_slice(alloc, b"1 1\n2 2\n")?;
         text.extend_from_slice(line)?;
-        assert!(rt; refuses(heap, text.as_slice(), Refusal::Text(2)));
+        assert!(rt; refuses(alloc, text.as_slice(), Refusal::Text(2)));
         text.extend_from_slice(b"\n70000 1\n")?;
-        assert!(rt; refuses(heap, text.as_slice(), Refusal::Text(2)));
+        assert!(rt; refuses(alloc, text.as_slice(), Refusal::Text(2)));
     }
     Ok(())
 }
 
 #[test]
 fn lines_below_a_header_are_counted_from_1(rt: HostRuntime) {
-    let heap = rt.alloc();
-    match read_capture_below(heap, b"7 3\nx\n") {
-        Ok(_) => assert!(rt; false),
-        Err(failure) => assert_eq!(rt; failure, Failure::Refused(Refusal::Text(2))),
-    }
+    let alloc = rt.alloc();
+    let read = read_capture(alloc, 1, b"7 3\nx\n");
+    assert!(rt; read.is_err_and(|failure| failure == Failure::Refused(Refusal::Text(2))));
 }
 
 #[test]
 fn samples_above_65535_are_refused_by_their_place(rt: HostRuntime) {
-    let heap = rt.alloc();
-    assert!(rt; refuses(heap, b"65536 1", Refusal::Samples(0)));
-    assert!(rt; refuses(heap, b"1 5\n2 65535\n70000 3\nx\n", Refusal::Samples(65540)));
+    let alloc = rt.alloc();
+    assert!(rt; refuses(alloc, b"65536 1", Refusal::Samples(0)));
     assert!(rt;
         refuses(
-            heap,
+            alloc,
+            b"1 5\n2 65535\n70000 3\nx\n",
+            Refusal::Samples(65540)
+        )
+    );
+    assert!(rt;
+        refuses(
+            alloc,
             b"1 5\n340282366920938463463374607431768211456 3\n",
             Refusal::Samples(5),
         )
@@ -128,25 +124,25 @@ fn the_longest_failure_has_120_bytes_at_most(rt: HostRuntime) -> Result<(), Fail
 
 #[test]
 fn failures_say_number_place_and_meaning(rt: HostRuntime) -> Result<(), Fail> {
-    let heap = rt.alloc();
-    let text = Failure::Refused(Refusal::Text(3)).to_string(heap)?;
+    let alloc = rt.alloc();
+    let text = Failure::Refused(Refusal::Text(3)).to_string(alloc)?;
     assert!(rt;
         text.as_str()
             == "refused 5 at 3: this line is not SAMPLE COUNT with a count of 1 to 65535; the first is line 0"
     );
-    let sample = Failure::Refused(Refusal::Samples(70)).to_string(heap)?;
+    let sample = Failure::Refused(Refusal::Samples(70)).to_string(alloc)?;
     assert!(rt;
         sample.as_str() == "refused 3 at 70: this sample is above 65535; the first is sample 0"
     );
-    let memory = Failure::Memory.to_string(heap)?;
+    let memory = Failure::Memory.to_string(alloc)?;
     assert!(rt; memory.as_str() == "out of memory");
     Ok(())
 }
 
 /// The text of a stream, a line for each sample or for some equal ones, and that of its fewest runs.
-fn two_texts(heap: Global, random: &mut Random) -> Result<(String, String), AllocError> {
-    let mut text = String::new(heap);
-    let mut fewest = String::new(heap);
+fn two_texts(alloc: Global, random: &mut Random) -> Result<(String, String), AllocError> {
+    let mut text = String::new(alloc);
+    let mut fewest = String::new(alloc);
     for _ in 0..random.up_to(30) {
         // Even and odd samples by turns, so that neighbours differ.
         let even = 2 * random.up_to(32767);
@@ -154,10 +150,10 @@ fn two_texts(heap: Global, random: &mut Random) -> Result<(String, String), Allo
             let mut sum = 0u32;
             for _ in 0..=random.up_to(2) {
                 let count = u32::from(random.up_to(999)) + 1;
-                text.push_str(format!(in heap; "{sample} {count}\n")?.as_str())?;
+                text.push_str(format!(in alloc; "{sample} {count}\n")?.as_str())?;
                 sum = sum.saturating_add(count);
             }
-            fewest.push_str(format!(in heap; "{sample} {sum}\n")?.as_str())?;
+            fewest.push_str(format!(in alloc; "{sample} {sum}\n")?.as_str())?;
         }
     }
     Ok((text, fewest))
@@ -165,12 +161,12 @@ fn two_texts(heap: Global, random: &mut Random) -> Result<(String, String), Allo
 
 #[test]
 fn random_texts_are_compacted(rt: HostRuntime) -> Result<(), Fail> {
-    let heap = rt.alloc();
+    let alloc = rt.alloc();
     let mut random = Random(4);
     for _ in 0..200 {
-        let (text, fewest) = two_texts(heap, &mut random)?;
-        assert!(rt; becomes(heap, text.as_bytes(), fewest.as_bytes()));
-        assert!(rt; becomes(heap, fewest.as_bytes(), fewest.as_bytes()));
+        let (text, fewest) = two_texts(alloc, &mut random)?;
+        assert!(rt; becomes(alloc, text.as_bytes(), fewest.as_str()));
+        assert!(rt; becomes(alloc, fewest.as_bytes(), fewest.as_str()));
     }
     Ok(())
 }

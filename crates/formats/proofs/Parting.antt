@@ -1,9 +1,12 @@
--- What a text is parted into at a mark, and the lines of a text by its first newline. Assumes nothing.
-use Rattle.std.proofs.Common.{◌≡◌, ℕ, zero, suc, ◌<◌, false, eqb, ◌⊎◌, List, [], ◌∷◌, ◌++◌, length, Some, None, sym, refl, ap, ◌∙◌, inl, inr, ⊎_elim, suc-le-suc, zero-le, le_of_suc-le-suc, arith}
+-- What stands before and after the first mark of a text, and the lines of a text by its first newline. Assumes nothing.
+use Rattle.std.proofs.Common.{◌≡◌, ℕ, zero, suc, ◌+◌, ◌<◌, false, eqb, ◌⊎◌, List, [], ◌∷◌, ◌++◌, length, sym, drop, append_assoc, ap, ◌∙◌, inl, inr, ⊎_elim, suc-le-suc, zero-le, le_of_suc-le-suc, arith}
 use Rattle.std.specs.Str.Iter.{LacksByte}
-use Rattle.std.proofs.lemmas.List.{length-append}
+use Rattle.std.proofs.lemmas.List.{length-append, get_or_append_left, take_at, drop_at, drop_all}
+use Rattle.std.proofs.lemmas.List.Sums.{position_or_len_is}
+use Rattle.std.proofs.Math.Seq.{get_or-append_seam}
+use Rattle.std.specs.List.{position_or_len, before_first, after_first, onto_first}
 use Rattle.std.proofs.lemmas.Bool.{ne_eqb, eq-eqb, cond-true, cond-false, cases_eq}
-use Rattle.formats.specs.Text.{onto_front, parted, onto_first, lines_of}
+use Rattle.formats.specs.Text.{lines_of}
 use Rattle.formats.specs.Number.{Ends}
 
 lacks_tail : (mark b : ℕ) (xs : List ℕ) → LacksByte mark (b ∷ xs) → LacksByte mark xs
@@ -21,15 +24,26 @@ lacks_append mark [] ys h k = k
 lacks_append mark (b ∷ xs) ys h k =
     lacks_cons mark b (xs ++ ys) (h 0 (omega arith)) (lacks_append mark xs ys (λ i lt e. h (suc i) (omega arith) e) k)
 
-pub parted-none : (mark : ℕ) (xs : List ℕ) → LacksByte mark xs → parted mark xs ≡ None
-parted-none mark [] h = refl
-parted-none mark (b ∷ xs) h =
-    cond-false _ _ _ (not_first mark b xs h) ∙ ap (onto_front b) (parted-none mark xs (lacks_tail mark b xs h))
+-- the whole of a text stands before its first mark, where there is none
+position-none : (mark : ℕ) (xs : List ℕ) → LacksByte mark xs → position_or_len (λ b. eqb b mark) xs ≡ length xs
+position-none mark xs h = position_or_len_is _ xs (length xs) 0 (omega arith) (λ k lt. ne_eqb _ _ (h k lt)) (λ lt. absurd (omega arith))
 
-pub parted-at : (mark : ℕ) (xs ys : List ℕ) → LacksByte mark xs → parted mark (xs ++ (mark ∷ ys)) ≡ Some (xs, ys)
-parted-at mark [] ys h = cond-true _ _ _ (eq-eqb mark mark refl)
-parted-at mark (b ∷ xs) ys h =
-    cond-false _ _ _ (not_first mark b xs h) ∙ ap (onto_front b) (parted-at mark xs ys (lacks_tail mark b xs h))
+position-at : (mark : ℕ) (xs ys : List ℕ) → LacksByte mark xs → position_or_len (λ b. eqb b mark) (xs ++ (mark ∷ ys)) ≡ length xs
+position-at mark xs ys h =
+    position_or_len_is _ (xs ++ (mark ∷ ys)) (length xs) 0 (simp length-append (omega arith))
+    (λ k lt. ne_eqb _ _ (λ e. h k lt (sym (get_or_append_left xs (mark ∷ ys) 0 k lt) ∙ e)))
+    (λ lt. eq-eqb _ _ (get_or-append_seam xs mark ys 0))
+
+pub after_none : (mark : ℕ) (xs : List ℕ) → LacksByte mark xs → after_first (λ b. eqb b mark) xs ≡ []
+after_none mark xs h = drop_all _ xs (omega (arith, position-none mark xs h))
+
+pub before_at : (mark : ℕ) (xs ys : List ℕ) → LacksByte mark xs → before_first (λ b. eqb b mark) (xs ++ (mark ∷ ys)) ≡ xs
+before_at mark xs ys h = take_at xs (mark ∷ ys) _ (sym (position-at mark xs ys h))
+
+pub after_at : (mark : ℕ) (xs ys : List ℕ) → LacksByte mark xs → after_first (λ b. eqb b mark) (xs ++ (mark ∷ ys)) ≡ ys
+after_at mark xs ys h =
+    ap (drop (position_or_len (λ b. eqb b mark) (xs ++ (mark ∷ ys)) + 1)) (sym (append_assoc xs (mark ∷ []) ys))
+    ∙ drop_at (xs ++ (mark ∷ [])) ys _ (omega (arith, length-append xs (mark ∷ []), position-at mark xs ys h))
 
 -- the first mark of a text
 pub record Marked (mark : ℕ) (bs : List ℕ) : Type 0 where

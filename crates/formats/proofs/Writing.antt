@@ -1,30 +1,18 @@
 -- The lines of runs, one after the other. Assumes nothing.
-use Rattle.std.proofs.Common.{◌≡◌, ℕ, ◌+◌, ◌<◌, ◌≤◌, List, [], ◌∷◌, ◌++◌, length, get_or, take, drop, sym, ap, ◌∙◌, subst, append_assoc, append-nil}
-use Rattle.std.proofs.lemmas.List.{take_more, take_all, drop_more, drop_all}
+use Rattle.std.proofs.Common.{◌≡◌, ℕ, ◌+◌, ◌<◌, List, [], ◌∷◌, ◌++◌, length, get_or, take, decimal, ap, ◌∙◌, append-nil, append_assoc}
+use Rattle.std.proofs.lemmas.List.{take_more}
+use Rattle.std.proofs.lemmas.List.Concat.{flat_map-append}
 use Rattle.samples.specs.declared.run.Run.{Run}
-use Rattle.formats.specs.Text.{line_of, text_of, SixteenBit}
+use Rattle.formats.specs.Text.{line_of, text_of}
 
-sixteen_push : (rs : List Run) (r : Run) → SixteenBit rs → r.sample ≤ 65535 → SixteenBit (rs ++ (r ∷ []))
-sixteen_push [] r s h = (h, tt)
-sixteen_push (q ∷ rs) r s h = (s.0, sixteen_push rs r s.1 h)
+-- one line more is written
+pub text_more : (rs : List Run) (i : ℕ) (d : Run) → i < length rs → text_of (take (i + 1) rs) ≡ text_of (take i rs) ++ (line_of (get_or rs i d) ++ (10 ∷ []))
+text_more rs i d h =
+    ap text_of (take_more rs i d h) ∙ flat_map-append (λ r. line_of r ++ (10 ∷ [])) (take i rs) (get_or rs i d ∷ [])
+    ∙ ap (λ l. text_of (take i rs) ++ l) (append-nil (line_of (get_or rs i d) ++ (10 ∷ [])))
 
--- the first i lines are written as `out`
-abbrev pub Written : List Run → ℕ → List ℕ → Type 0
-Written rs i out = (out ++ text_of (drop i rs) ≡ text_of rs) × SixteenBit (take i rs)
-
-pub written_more :
-    (rs : List Run) (i : ℕ) (d : Run) (was is : List ℕ) → i < length rs → Written rs i was → is ≡ was ++ (line_of (get_or rs i d) ++ (10 ∷ [])) → (get_or rs i d).sample ≤ 65535 →
-    Written rs (i + 1) is
-written_more rs i d was is h w e s =
-    let line = line_of (get_or rs i d) in
-    let rest = text_of (drop (i + 1) rs) in (
-      ap (λ l. l ++ rest) e ∙ append_assoc was (line ++ (10 ∷ [])) rest ∙ ap (λ l. was ++ l) (append_assoc line (10 ∷ []) rest)
-          ∙ ap (λ l. was ++ text_of l) (sym (drop_more rs i d h)) ∙ w.0,
-      subst SixteenBit (sym (take_more rs i d h)) (sixteen_push (take i rs) (get_or rs i d) w.1 s),
-    )
-
-pub written_all : (rs : List Run) (i : ℕ) (out : List ℕ) → length rs ≤ i → Written rs i out → (out ≡ text_of rs) × SixteenBit rs
-written_all rs i out h w = (
-  sym (append-nil out) ∙ ap (λ l. out ++ text_of l) (sym (drop_all i rs h)) ∙ w.0,
-  subst SixteenBit (take_all i rs h) w.1,
-)
+-- as it is written, piece by piece
+pub line_written :
+    (r : Run) (out a b c is sample space count newline : List ℕ) → a ≡ out ++ sample → b ≡ a ++ space → c ≡ b ++ count → is ≡ c ++ newline →
+    sample ≡ decimal r.sample → space ≡ 32 ∷ [] → count ≡ decimal r.count → newline ≡ 10 ∷ [] → is ≡ out ++ (line_of r ++ (10 ∷ []))
+line_written r out a b c is sample space count newline ea eb ec e s sp k nl = rw (e, ec, eb, ea, s, sp, k, nl) (simp append_assoc)

@@ -1,65 +1,55 @@
 //! Whole captures.
-ghost use Rattle.std.specs.Prelude.{◌≡◌, ◌+◌, ◌^◌, ◌<◌, length, Ok as Good, MatchResult};
-ghost use Rattle.samples.specs.Runs.{samples_of};
-ghost use Rattle.formats.specs.Capture.{samples_in, samples_from, Fails, FailsFrom, Writes, Compacts};
+ghost use Rattle.std.specs.Prelude.{◌≡◌, string_bytes, MatchResult};
+ghost use Rattle.samples.specs.Runs.{rolled};
+ghost use Rattle.formats.specs.Capture.{samples_in, Fails, Writes, Compacts};
 
 use crate::cursor::Lines;
 use crate::failure::Failure;
-use crate::line::{LINE_BYTES, put_line};
+use itoa::Buffer;
 use samples::Runs;
 use std::alloc::{AllocError, Global};
 
-/// The runs of the samples that a text stands for.
-pub fn read_capture(heap: Global, text: &[u8]) -> Result<Runs, Failure>
-    ensures { MatchResult result (λ runs. samples_in text.now ≡ Good (samples_of runs.list.items)) (λ e. Fails e text.now) }
+/// The runs of the samples that a text stands for; its first line counts as line `first_line`, which is 1 below a header.
+pub fn read_capture(alloc: Global, first_line: u32, text: &[u8]) -> Result<Runs, Failure>
+    ensures { MatchResult result (λ runs. samples_in first_line text.now ≡ Ok runs.samples) (λ e. Fails first_line e text.now) }
 {
-    read_from(heap, 0, text)
-}
-
-/// As `read_capture`, of a text below a header, which is line 0.
-pub fn read_capture_below(heap: Global, text: &[u8]) -> Result<Runs, Failure>
-    ensures { MatchResult result (λ runs. samples_from 1 text.now ≡ Good (samples_of runs.list.items)) (λ e. FailsFrom 1 e text.now) }
-{
-    read_from(heap, 1, text)
-}
-
-/// As `read_capture`, of a text whose first line is line `line`.
-fn read_from(heap: Global, line: u64, text: &[u8]) -> Result<Runs, Failure>
-    requires { line + length text.now < 2 ^ 64 }
-    ensures { MatchResult result (λ runs. samples_from line text.now ≡ Good (samples_of runs.list.items)) (λ e. FailsFrom line e text.now) }
-{
-    let mut lines = Lines::from_line(line, text);
-    let mut runs = Runs::new(heap);
-    while let Some(run) = lines.next_run()? {
-        if runs.push(run).is_err() {
-            // A line at fault comes before want of memory, however far on it is.
-            lines.check_rest()?;
-            return Err(Failure::Memory);
+    let mut runs = Runs::new(alloc);
+    let mut kept = Ok(());
+    for run in Lines::new(first_line, text) {
+        let run = run?;
+        // A line at fault comes before want of memory, however far on it is.
+        if kept.is_ok() {
+            kept = runs.push(run);
         }
     }
+    kept?;
     Ok(runs)
 }
 
+/// The most bytes that the line of a run has: two numbers of five digits, a space and a newline.
+const LINE_BYTES: usize = 12;
+
 /// The text of runs, which is read back as those runs.
-pub fn write_capture(heap: Global, runs: &Runs) -> Result<Vec<u8>, AllocError>
-    ensures { Writes result runs.now.list.items }
+pub fn write_capture(alloc: Global, runs: &Runs) -> Result<String, AllocError>
+    ensures { Writes result (rolled runs.now.samples) }
 {
-    let list = runs.as_slice();
-    let Some(most) = list.len().checked_mul(LINE_BYTES) else {
-        return Err(AllocError);
-    };
-    let mut out = Vec::new(heap);
-    out.reserve(most)?;
-    for run in list {
-        put_line(&mut out, *run);
+    let runs = runs.as_slice();
+    let mut out = String::with_capacity(alloc, runs.len().saturating_mul(LINE_BYTES))?;
+    let mut digits = Buffer::new();
+    // By `itoa`, since with `writeln!` the whole program `capture` takes 1.3 times as long.
+    for run in runs {
+        out.push_str(digits.format(run.sample))?;
+        out.push(' ')?;
+        out.push_str(digits.format(run.count))?;
+        out.push('\n')?;
     }
     Ok(out)
 }
 
 /// The text of a capture in as few runs as there can be.
-pub fn compact(heap: Global, text: &[u8]) -> Result<Vec<u8>, Failure>
-    ensures { MatchResult result (λ out. Compacts text.now out.items) (λ e. Fails e text.now) }
+pub fn compact(alloc: Global, text: &[u8]) -> Result<String, Failure>
+    ensures { MatchResult result (λ out. Compacts text.now (string_bytes out)) (λ e. Fails 0 e text.now) }
 {
-    let runs = read_capture(heap, text)?;
-    Ok(write_capture(heap, &runs)?)
+    let runs = read_capture(alloc, 0, text)?;
+    Ok(write_capture(alloc, &runs)?)
 }

@@ -1,6 +1,6 @@
 //! Why a text function gives no text.
-ghost use Rattle.std.specs.Prelude.{◌≡◌, Some as Given};
-ghost use Rattle.formats.specs.declared.failure.Failure.TheVariants.{Memory as NoMemory, Refused as Turned};
+ghost use Rattle.std.specs.Prelude.{◌≡◌, Some};
+ghost use Rattle.formats.specs.declared.failure.Failure.TheVariants.{Memory, Refused};
 ghost use Rattle.formats.specs.Message.{meaning_of, message_of};
 
 use samples::Refusal;
@@ -15,8 +15,9 @@ pub enum Failure {
     Refused(Refusal),
 }
 
+// Both `From` are by hand, since a derived one does not say which failure a `?` makes.
 impl From<AllocError> for Failure {
-    ghost from_gives = { λ _ r. r ≡ NoMemory };
+    ghost from_gives = { λ _ r. r ≡ Memory };
 
     fn from(_e: AllocError) -> Failure {
         Failure::Memory
@@ -24,7 +25,7 @@ impl From<AllocError> for Failure {
 }
 
 impl From<Refusal> for Failure {
-    ghost from_gives = { λ f r. r ≡ Turned f };
+    ghost from_gives = { λ f r. r ≡ Refused f };
 
     fn from(refusal: Refusal) -> Failure {
         Failure::Refused(refusal)
@@ -46,7 +47,7 @@ fn meaning(refusal: Refusal) -> &'static str
 }
 
 impl fmt::Display for Failure {
-    ghost output = { λ e. Given (message_of e) };
+    ghost output = { λ e. Some (message_of e) };
 
     fn fmt<W: fmt::Write>(&self, f: &mut fmt::Formatter<W>) -> fmt::Result {
         match *self {

@@ -8,8 +8,8 @@ mod line;
 mod number;
 mod theorems;
 
-pub use capture::{compact, read_capture, read_capture_below, write_capture};
+pub use capture::{compact, read_capture, write_capture};
 pub use failure::Failure;
-pub use line::end_line;
+pub use line::{end_line, two_numbers};
 pub use number::read_number;
 pub use theorems::round_trip;

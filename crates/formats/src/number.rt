@@ -1,6 +1,5 @@
 //! Decimal numbers in a text.
-ghost use Rattle.std.specs.Prelude.{◌≡◌, ◌+◌, ◌<◌, ◌≤◌, ◌++◌, vec_len, vec_capacity, decimal, MatchOption};
-ghost use Rattle.formats.specs.Internal.{last_digit};
+ghost use Rattle.std.specs.Prelude.{MatchOption};
 ghost use Rattle.formats.specs.Number.{NoDigit, FrontTo};
 
 /// The largest number that is read exactly.
@@ -23,30 +22,4 @@ pub fn read_number(text: &[u8]) -> Option<(u32, &[u8])>
         rest = after;
     }
     Some((number, rest))
-}
-
-/// Writes a number, which has at most five digits.
-pub(crate) fn put_number(out: &mut Vec<u8>, number: u16)
-    requires { vec_len out.old + 5 ≤ vec_capacity out.old }
-    ensures items { out.new.items ≡ out.old.items ++ decimal number }
-    ensures len { vec_len out.new ≤ vec_len out.old + 5 }
-    ensures capacity { vec_capacity out.new ≡ vec_capacity out.old }
-{
-    put_digit(out, number / 10000);
-    put_digit(out, number / 1000);
-    put_digit(out, number / 100);
-    put_digit(out, number / 10);
-    out.push_reserved(b'0' + (number % 10) as u8);
-}
-
-/// Writes the last digit of the front of a number; a front of 0 is not written.
-fn put_digit(out: &mut Vec<u8>, front: u16)
-    requires { vec_len out.old < vec_capacity out.old }
-    ensures items { out.new.items ≡ out.old.items ++ last_digit front }
-    ensures len { vec_len out.new ≤ vec_len out.old + 1 }
-    ensures capacity { vec_capacity out.new ≡ vec_capacity out.old }
-{
-    if front > 0 {
-        out.push_reserved(b'0' + (front % 10) as u8);
-    }
 }

@@ -1,6 +1,6 @@
 -- What is read of a text: a header, and the lines of a capture below it. Assumes nothing: these are definitions.
 use Rattle.std.specs.Prelude.{◌≡◌, ℕ, ◌⊎◌, List, ◌++◌, map, length, Some, Ok}
-use Rattle.samples.specs.declared.answer.Refusal.TheVariants.{Text}
+use Rattle.samples.specs.declared.refusal.Refusal.TheVariants.{Text}
 use Rattle.samples.specs.Line.{level}
 use Rattle.decoder.specs.Machine.{outputs_at, placed_within}
 use Rattle.uart.specs.declared.words.Word.{Word}
@@ -10,7 +10,7 @@ use Rattle.uart.specs.Wave.{Sent, wave_after, AllFair, sent_at}
 use Rattle.uart.specs.Word.{word_text}
 use Rattle.formats.specs.declared.failure.Failure.{Failure}
 use Rattle.formats.specs.declared.failure.Failure.TheVariants.{Memory, Refused}
-use Rattle.formats.specs.Capture.{samples_from, FailsFrom}
+use Rattle.formats.specs.Capture.{samples_in, Fails}
 use Rattle.readout.specs.declared.header.Settings.{Settings}
 use Rattle.readout.specs.declared.header.Settings.TheVariants.{Serial}
 use Rattle.readout.specs.Header.{Header, NoHeader}
@@ -24,15 +24,15 @@ use Rattle.readout.specs.Listing.{listing}
 pub record DecodesSerial (line bit : ℕ) (after out : List ℕ) : Type 0 where
   pub samples : List ℕ
   pub range : InRange bit line
-  pub given : samples_from 1 after ≡ Ok samples
+  pub given : samples_in 1 after ≡ Ok samples
   pub listed : out ≡ listing word_text (outputs_at step emit 0 (fresh bit line) samples)
   pub fair : (lead : ℕ) (bs : List Sent) → AllFair bit bs → map (level line) samples ≡ wave_after lead bs → out ≡ listing word_text (sent_at bit lead bs)
   pub begun : (rest : List ℕ) (words : List (ℕ × Word)) → Carries bit line (samples ++ rest) words → out ≡ listing word_text (placed_within 0 (length samples) words)
 
 -- a setting is out of its range; or the capture fails
 abbrev pub FailsSerial : Failure → (line bit : ℕ) → (after : List ℕ) → Type 0
-FailsSerial Memory k d after = InRange d k × FailsFrom 1 Memory after
-FailsSerial (Refused f) k d after = (setting_at_fault d k ≡ Some f) ⊎ (InRange d k × FailsFrom 1 (Refused f) after)
+FailsSerial Memory k d after = InRange d k × Fails 1 Memory after
+FailsSerial (Refused f) k d after = (setting_at_fault d k ≡ Some f) ⊎ (InRange d k × Fails 1 (Refused f) after)
 
 -- ANY HEADER
 

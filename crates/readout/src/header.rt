@@ -2,7 +2,7 @@
 ghost use Rattle.std.specs.Option.{MatchOption};
 ghost use Rattle.readout.specs.Header.{Header, NoHeader};
 
-use formats::{end_line, read_number};
+use formats::two_numbers;
 
 /// What a header asks for: a serial line, and how many samples a bit is.
 #[derive(Clone, Copy, Debug, PartialEq, Eq)]
@@ -15,9 +15,6 @@ pub fn read_header(text: &[u8]) -> Option<(Settings, &[u8])>
     ensures { MatchOption result (NoHeader text.now) (λ p. Header text.now p.0 p.1.now) }
 {
     let rest = text.strip_prefix(b"serial line ")?;
-    let (line, rest) = read_number(rest)?;
-    let rest = rest.strip_prefix(b" bit ")?;
-    let (bit, rest) = read_number(rest)?;
-    let after = end_line(rest)?;
+    let (line, bit, after) = two_numbers(rest, b" bit ")?;
     Some((Settings::Serial { line, bit }, after))
 }

@@ -7,3 +7,4 @@ pub mod Changes
 pub mod Room
 pub mod Cuts
 pub mod Wants
+pub mod Taken

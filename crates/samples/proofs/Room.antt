@@ -1,7 +1,7 @@
--- Numbers are written into the free part of a room. Assumes nothing.
-use Rattle.std.proofs.Common.{◌≡◌, ℕ, ◌+◌, ◌-◌, ◌*◌, ◌≤◌, List, [], ◌∷◌, ◌++◌, length, take, drop, sym, refl, ap, ◌∙◌, arith, length-append, length-drop, take-append-drop}
+-- Numbers are written into a room. Assumes nothing.
+use Rattle.std.proofs.Common.{◌≡◌, ℕ, ◌+◌, ◌-◌, ◌*◌, ◌≤◌, List, [], ◌∷◌, ◌++◌, length, take, drop, sym, refl, ap, ◌∙◌, arith, length-append, length-drop}
 use borrow.Rule.Slice.PartMut.{put_mid}
-use Rattle.std.proofs.lemmas.List.{append-nil, append_assoc, take_at, drop_at, drop_all, drop-drop, take_rest, length-take-le}
+use Rattle.std.proofs.lemmas.List.{append-nil, append_assoc, take_at, drop_at, drop_all, drop-drop, take_rest}
 use Rattle.samples.specs.declared.run.Run.{Run}
 use Rattle.samples.specs.Roll.{numbers, filled}
 
@@ -22,16 +22,15 @@ module _ (room free ns : List ℕ) (at : ℕ) (fits : at + length ns ≤ length 
       ∙ ap (λ l. take at room ++ (ns ++ l)) (drop-drop (length ns) at room)
       ∙ sym (append_assoc (take at room) ns (drop (at + length ns) room))
 
-  long : length (take at room ++ ns) ≡ at + length ns
-  long = length-append (take at room) ns ∙ ap (λ n. n + length ns) (length-take-le at room (omega arith))
-
-  pub take-written : take (at + length ns) after ≡ take at room ++ ns
-  take-written = ap (take (at + length ns)) after_is ∙ take_at (take at room ++ ns) (drop (at + length ns) room) (at + length ns) long
-
-  pub drop-written : drop (at + length ns) after ≡ drop (at + length ns) room
-  drop-written = ap (drop (at + length ns)) after_is ∙ drop_at (take at room ++ ns) (drop (at + length ns) room) (at + length ns) long
-
--- all that there was to write is written
-pub room_filled : (room start ns : List ℕ) (at : ℕ) → at ≡ length ns → take at room ≡ ns → drop at room ≡ drop at start → room ≡ filled ns start
-room_filled room start ns at long front rest =
-    sym (take-append-drop at room) ∙ ap (λ l. l ++ drop at room) front ∙ ap (λ l. ns ++ l) (rest ∙ ap (λ n. drop n start) long)
+-- more is written behind what was written: the free part of the room was lent
+pub lent_on :
+    (start room free ns ms : List ℕ) (at : ℕ) → at ≡ length ns → at + length ms ≤ length start → room ≡ filled ns start →
+    free ≡ filled ms (take (length room - at) (drop at room)) → put_mid at (length room - at) room free ≡ filled (ns ++ ms) start
+lent_on start room free ns ms at long fits is wrote =
+    let size : length room ≡ length start = ap length is ∙ length-append ns (drop (length ns) start) ∙ omega (arith, length-drop (length ns) start, long, fits) in
+    let front : take at room ≡ ns = ap (take at) is ∙ take_at ns (drop (length ns) start) at (sym long) in
+    let rest : drop at room ≡ drop at start = ap (drop at) is ∙ drop_at ns (drop (length ns) start) at (sym long) ∙ ap (λ n. drop n start) (sym long) in
+    let both : at + length ms ≡ length (ns ++ ms) = omega (arith, long, length-append ns ms) in
+    after_is room free ms at (omega (arith, size, fits)) wrote
+    ∙ ap (λ l. (l ++ ms) ++ drop (at + length ms) room) front
+    ∙ ap (λ l. (ns ++ ms) ++ l) (sym (drop-drop (length ms) at room) ∙ ap (drop (length ms)) rest ∙ drop-drop (length ms) at start ∙ ap (λ n. drop n start) both)

@@ -1,7 +1,8 @@
 -- `rolled` goes on run by run. Assumes nothing.
-use Rattle.std.proofs.Common.{◌≡◌, ℕ, zero, suc, ◌+◌, ◌-◌, ◌<◌, ◌≤◌, min, false, List, [], ◌∷◌, ◌++◌, length, get_or, take, drop, replicate, sym, refl, ap, ◌∙◌, subst, ⊎_elim, arith, take-append-drop}
-use Rattle.std.proofs.lemmas.List.{append-nil, take_more, drop_more, drop_all, replicate_more, replicate-append-replicate}
-use Rattle.std.proofs.lemmas.Bool.{cond-true, cond-false, and_from, and_left, and_right, eq-eqb, ne_eqb, lt-ltb, le-ltb, cases_lt}
+use Rattle.std.proofs.Common.{◌≡◌, ℕ, zero, suc, ◌+◌, ◌-◌, ◌<◌, ◌≤◌, min, eqb, false, List, [], ◌∷◌, ◌++◌, length, get_or, take, drop, replicate, sym, refl, ap, ◌∙◌, subst, arith}
+use Rattle.std.specs.List.{prefix_len}
+use Rattle.std.proofs.lemmas.List.{append-nil, replicate-append-replicate, take_min, take_at}
+use Rattle.std.proofs.lemmas.Bool.{cond-true, cond-false, cond_both, and_from, and_left, and_right, eq-eqb, ne_eqb, lt-ltb, le-ltb}
 use Rattle.samples.specs.declared.run.Run.{Run}
 use Rattle.samples.specs.Runs.{run, takes_in, rolled_on, rolled}
 
@@ -66,20 +67,38 @@ join_past r q h k over same =
 
 -- THE RUN AT THE FRONT
 
-pub front_one : (x n : ℕ) (xs : List ℕ) → 0 < length xs → x ≡ get_or xs 0 0 → n ≡ 1 → take n xs ≡ replicate n x
-front_one x n [] h e f = absurd (omega arith)
-front_one x n (y ∷ ys) h e f = ap (λ m. take m (y ∷ ys)) f ∙ ap (λ z. z ∷ []) (sym e) ∙ ap (λ m. replicate m x) (sym f)
+-- how many of some samples from the front on equal x
+abbrev pub alike : ℕ → List ℕ → ℕ
+alike x xs = prefix_len (λ y. eqb y x) xs
 
-pub front_more : (x n : ℕ) (xs : List ℕ) → n < length xs → get_or xs n 0 ≡ x → take n xs ≡ replicate n x → take (n + 1) xs ≡ replicate (n + 1) x
-front_more x n xs h e f = take_more xs n 0 h ∙ ap (λ l. l ++ (get_or xs n 0 ∷ [])) f ∙ ap (λ y. replicate n x ++ (y ∷ [])) e ∙ replicate_more n x
+-- a run takes in the samples that equal its own, up to the m that it has room for
+taken_on : (x n m : ℕ) (xs : List ℕ) → n + m ≡ 65535 → rolled_on (run x n) xs ≡ run x (n + alike x (take m xs)) ∷ rolled (drop (alike x (take m xs)) xs)
+taken_on x n zero xs h = ended (run x n) xs (ends_full (run x n) xs (omega arith)) ∙ ap (λ k. run x k ∷ rolled xs) (omega arith)
+taken_on x n (suc m) [] h = ap (λ k. run x k ∷ []) (omega arith)
+taken_on x n (suc m) (y ∷ ys) h =
+    let more = alike x (take m ys) in
+    let one : suc more ≡ 1 + more = omega arith in
+    let long : n + 1 + more ≡ n + suc more = omega arith in
+    cond_both (eqb y x) (1 + more) 0 (λ k. rolled_on (run x n) (y ∷ ys) ≡ run x (n + k) ∷ rolled (drop k (y ∷ ys)))
+    (λ e.
+    cond-true _ _ _ (and_from _ _ e (lt-ltb n 65535 (omega arith))) ∙ taken_on x (n + 1) m ys (omega arith)
+    ∙ ap (λ k. run x k ∷ rolled (drop more ys)) long ∙ ap (λ k. run x (n + k) ∷ rolled (drop k (y ∷ ys))) one)
+    (λ e. ended (run x n) (y ∷ ys) (and_left _ _ e) ∙ ap (λ k. run x k ∷ rolled (y ∷ ys)) (omega arith))
 
-pub front_other : (x n : ℕ) (xs : List ℕ) → n < length xs → (get_or xs n 0 ≡ x → ⊥) → Ends (run x n) (drop n xs)
-front_other x n xs h ne = subst (Ends (run x n)) (sym (drop_more xs n 0 h)) (ends_other (run x n) (get_or xs n 0) (drop (n + 1) xs) ne)
+-- samples begin with a run of those that equal the first
+first_alike : (xs : List ℕ) (n : ℕ) → 0 < length xs → n ≡ alike (get_or xs 0 0) (take 65535 xs) → rolled xs ≡ run (get_or xs 0 0) n ∷ rolled (drop n xs)
+first_alike [] n h e = absurd (omega arith)
+first_alike (x ∷ xs) n h e =
+    let more = alike x (take 65534 xs) in
+    let one : suc more ≡ n = omega (arith, e, cond-true (eqb x x) (1 + more) 0 (eq-eqb x x refl)) in
+    let long : 1 + more ≡ suc more = omega arith in
+    taken_on x 1 65534 xs (omega arith) ∙ ap (λ k. run x k ∷ rolled (drop more xs)) long ∙ ap (λ k. run x k ∷ rolled (drop k (x ∷ xs))) one
 
-pub front_most : (x n : ℕ) (xs : List ℕ) → min (length xs) 65535 ≤ n → Ends (run x n) (drop n xs)
-front_most x n xs h =
-    ⊎_elim (λ full. ends_full (run x n) (drop n xs) (omega arith)) (λ all. subst (Ends (run x n)) (sym (drop_all n xs all)) tt) (cases_lt n (length xs))
-
-pub front_rolls :
-    (x n : ℕ) (xs : List ℕ) → 1 ≤ n → n ≤ 65535 → take n xs ≡ replicate n x → Ends (run x n) (drop n xs) → rolled xs ≡ run x n ∷ rolled (drop n xs)
-front_rolls x n xs l h e d = ap rolled (sym (take-append-drop n xs)) ∙ ap (λ ys. rolled (ys ++ drop n xs)) e ∙ begun x n (drop n xs) l h d
+-- the same, where `most` is the front in which they are counted
+pub first_taken :
+    (xs most rest : List ℕ) (n : ℕ) → xs ≡ most ++ rest → length most ≡ min 65535 (length xs) → 0 < length xs → n ≡ alike (get_or most 0 0) most →
+    rolled xs ≡ run (get_or most 0 0) n ∷ rolled (drop n xs)
+first_taken [] most rest n parts long h e = absurd (omega arith)
+first_taken (x ∷ xs) most rest n parts long h e =
+    let front : take 65535 (x ∷ xs) ≡ most = sym (take_min 65535 (x ∷ xs)) ∙ ap (take (min 65535 (length (x ∷ xs)))) parts ∙ take_at most rest _ long in
+    subst (λ ys. n ≡ alike (get_or ys 0 0) ys → rolled (x ∷ xs) ≡ run (get_or ys 0 0) n ∷ rolled (drop n (x ∷ xs))) front (first_alike (x ∷ xs) n h) e

@@ -1,6 +1,6 @@
-pub mod Answer
 pub mod Internal
 pub mod Line
+pub mod Refusal
 pub mod Roll
 pub mod Runs
 pub mod Stream

@@ -1,11 +1,11 @@
 -- Samples kept as runs. Assumes nothing: these are definitions.
-use Rattle.std.specs.Prelude.{◌≡◌, ℕ, ◌+◌, ◌≤◌, Bool, cond, ◌&&◌, List, [], ◌∷◌, ◌++◌, length, replicate, ◌==◌, nat_lt}
+use Rattle.std.specs.Prelude.{◌≡◌, ℕ, ◌+◌, ◌≤◌, Bool, cond, ◌&&◌, List, [], ◌∷◌, length, replicate, ◌==◌, nat_lt}
+use Rattle.std.specs.List.{flat_map}
 use Rattle.samples.specs.declared.run.Run.{Run}
 
 -- a run gives its sample as often as it counts
 abbrev pub samples_of : List Run → List ℕ
-samples_of [] = []
-samples_of (r ∷ rs) = replicate r.count r.sample ++ samples_of rs
+samples_of rs = flat_map (λ r. replicate r.count r.sample) rs
 
 -- a run counts 1 to 65,535 samples
 abbrev pub WellFormed : List Run → Type 0

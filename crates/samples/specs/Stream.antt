@@ -1,23 +1,26 @@
 -- A stream of samples that is handed over piece by piece. Assumes nothing: these are definitions.
-use Rattle.std.specs.Prelude.{◌≡◌, ℕ, ◌<◌, List, [], ◌∷◌, ◌++◌, length, Ok, Err, vec_items, vec_capacity, Result, Vec}
-use Rattle.std.specs.declared.alloc.Global.{Global}
-use Rattle.std.specs.List.{flat_map}
+use Rattle.std.specs.Prelude.{◌≡◌, ℕ, ◌<◌, List, [], ◌++◌, length, Ok, Err, Result}
+use Rattle.std.specs.List.{flat_map, fold}
 use Rattle.samples.specs.declared.run.Run.{Run}
 use Rattle.samples.specs.Runs.{samples_of, rolled, Minimal}
+
+-- what is kept of a stream: its samples, as runs, and how many runs there is capacity for
+pub record Kept : Type 0 where
+  pub samples : List ℕ
+  pub capacity : ℕ
 
 -- the runs of a stream that goes on with a piece
 abbrev pub extended : List Run → List ℕ → List Run
 extended rs piece = rolled (samples_of rs ++ piece)
 
 -- a stream went on with a piece; or it is as it was, for want of memory, since that takes more runs than its list has capacity for
-abbrev pub Extends : {E : Type 0} → Result (Unit {0}) E → (before : Vec Run Global) → (piece : List ℕ) → (after : Vec Run Global) → Type 0
-Extends (Ok u) before piece after = vec_items after ≡ extended (vec_items before) piece
-Extends (Err e) before piece after = (vec_items after ≡ vec_items before) × (vec_capacity before < length (extended (vec_items before) piece))
+abbrev pub Extends : {E : Type 0} → Result (Unit {0}) E → (before : Kept) → (piece : List ℕ) → (after : Kept) → Type 0
+Extends (Ok u) before piece after = after.samples ≡ before.samples ++ piece
+Extends (Err e) before piece after = (after.samples ≡ before.samples) × (before.capacity < length (rolled (before.samples ++ piece)))
 
 -- the runs of a stream after all its pieces
 abbrev pub handed_over : List Run → List (List ℕ) → List Run
-handed_over rs [] = rs
-handed_over rs (p ∷ ps) = handed_over (extended rs p) ps
+handed_over rs pieces = fold extended rs pieces
 
 -- however a stream is cut, its runs are those of the whole, and as few as there can be
 abbrev pub AnyCut : Type 0

@@ -1,24 +1,33 @@
 //! A piece of samples, rolled up into a lent room.
-ghost use Rattle.std.specs.Prelude.{◌≡◌, ◌*◌, ◌≤◌, [], ◌∷◌, length};
+ghost use Rattle.std.specs.Prelude.{◌≡◌, ◌*◌, ◌<◌, ◌≤◌, [], ◌∷◌, length, MatchResult};
+ghost use Rattle.samples.specs.declared.refusal.Refusal.TheVariants.{Samples as TooMany};
 ghost use Rattle.samples.specs.Roll.{numbers, filled, Rolls};
 ghost use Rattle.samples.specs.Runs.{rolled};
 
-use crate::answer::{Done, Refusal};
-use crate::run::{MOST_SAMPLES, Run, first_run};
+use crate::refusal::Refusal;
+use crate::run::{MOST_SAMPLES, Run, RunsOf};
 
-/// Keeps a piece of samples as runs, as few as there can be: two numbers of the room for each, sample and count.
-pub fn roll(samples: &[u16], room: &mut [u16]) -> Done
-    ensures { Rolls samples.now room.old result room.new }
+/// Refuses more samples than one piece has.
+pub fn check_piece(samples: &[u16]) -> Result<(), Refusal>
+    ensures { MatchResult result (λ _. length samples.now ≤ 65535) (λ f. (f ≡ TooMany 65535) × (65535 < length samples.now)) }
 {
     if samples.len() > MOST_SAMPLES {
-        return Done::Refused(Refusal::Samples(MOST_SAMPLES as u64));
+        return Err(Refusal::Samples(MOST_SAMPLES as u64));
     }
+    Ok(())
+}
+
+/// Keeps a piece of samples as runs, as few as there can be: two numbers of the room for each, sample and count. Answers how many runs there are.
+pub fn roll(samples: &[u16], room: &mut [u16]) -> Result<u64, Refusal>
+    ensures { Rolls samples.now room.old result room.new }
+{
+    check_piece(samples)?;
     let runs = count_runs(samples);
     if room.len() < 2 * runs {
-        return Done::Refused(Refusal::Room(room.len() as u64));
+        return Err(Refusal::Room(room.len() as u64));
     }
     write_runs(samples, room);
-    Done::Read(runs as u64)
+    Ok(runs as u64)
 }
 
 /// How many runs a piece comes to: one more than it has changes.
@@ -27,17 +36,16 @@ fn count_runs(samples: &[u16]) -> usize
     ensures value { result ≡ length (rolled samples.now) }
     ensures bound { result ≤ 65535 }
 {
-    if samples.is_empty() {
+    let [_, later @ ..] = samples else {
         return 0;
-    }
+    };
     // Sixteen bits hold the count, and let eight samples at a time be compared.
-    let mut runs = 1u16;
-    for i in 1..samples.len() {
-        if samples[i] != samples[i - 1] {
-            runs += 1;
-        }
-    }
-    usize::from(runs)
+    let changes = samples
+        .iter()
+        .zip(later)
+        .map(|(sample, next)| u16::from(next != sample))
+        .sum::<u16>();
+    1 + usize::from(changes)
 }
 
 /// Writes the runs of a piece, where there is room for them.
@@ -45,12 +53,8 @@ fn write_runs(samples: &[u16], room: &mut [u16])
     requires { 2 * length (rolled samples.now) ≤ length room.old }
     ensures { room.new ≡ filled (numbers (rolled samples.now)) room.old }
 {
-    let mut from = 0;
-    let mut at = 0;
-    while let Some(run) = first_run(&samples[from..]) {
-        write_run(&mut room[at..], run);
-        from += usize::from(run.count);
-        at += 2;
+    for (place, run) in RunsOf::new(samples).enumerate() {
+        write_run(&mut room[2 * place..], run);
     }
 }
 

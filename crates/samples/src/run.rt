@@ -1,5 +1,6 @@
 //! A run of equal samples.
-ghost use Rattle.std.specs.Prelude.{◌≡◌, ◌<◌, ◌≤◌, ◌∷◌, length, drop, replicate, MatchOption};
+ghost use Rattle.std.specs.Prelude.{◌≡◌, ◌≤◌, ◌∷◌, replicate};
+ghost use Rattle.std.specs.Iterator.{YieldsFirst, item_count};
 ghost use Rattle.std.specs.Option.{option_to_list};
 ghost use Rattle.samples.specs.Runs.{rolled_on, rolled};
 
@@ -39,21 +40,37 @@ impl Run {
 /// The most samples that a run counts, and so the most that a piece has.
 pub const MOST_SAMPLES: usize = 65535;
 
-/// The run with which samples begin, as long as it can be.
-pub(crate) fn first_run(samples: &[u16]) -> Option<Run>
-    ensures within { MatchOption result (length samples.now ≡ 0) (λ run. (1 ≤ run.count) × (run.count ≤ length samples.now)) }
-    ensures rolls { MatchOption result (length samples.now ≡ 0) (λ run. rolled samples.now ≡ run ∷ rolled (drop run.count samples.now)) }
-{
-    let &[sample, ..] = samples else {
-        return None;
-    };
-    let most = samples.len().min(MOST_SAMPLES);
-    let mut count = 1;
-    while count < most && samples[count] == sample {
-        count += 1;
+/// The runs of samples, each as long as it can be.
+#[derive(Drop)]
+pub(crate) struct RunsOf<'a> {
+    rest: &'a [u16],
+}
+
+impl<'a> RunsOf<'a> {
+    /// The runs of these samples.
+    pub(crate) fn new(samples: &'a [u16]) -> RunsOf<'a>
+        ensures { result.rest.now ≡ samples.now }
+    {
+        RunsOf { rest: samples }
     }
-    Some(Run {
-        sample,
-        count: count as u16,
-    })
+}
+
+impl Iterator for RunsOf<'_> {
+    type Item = Run;
+
+    ghost next_gives = { YieldsFirst (λ s. rolled s.rest.now) };
+
+    ghost remaining = { item_count (λ s. rolled s.rest.now) };
+
+    /// The run with which the samples that are left begin, as long as it can be.
+    fn next(&mut self) -> Option<Run> {
+        // By `chunks`, since with `take` long runs are read at less than half the speed.
+        let most = self.rest.chunks(MOST_SAMPLES).next()?;
+        let sample = most[0];
+        let count = most.iter().take_while(|next| **next == sample).count();
+        self.rest = &self.rest[count..];
+        // No more than 65,535 are counted, so `try_from` would only add an error that cannot come.
+        let count = count as u16;
+        Some(Run { sample, count })
+    }
 }

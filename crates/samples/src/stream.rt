@@ -1,32 +1,45 @@
 //! A stream of samples kept as runs.
-ghost use Rattle.std.specs.Prelude.{◌≡◌, ◌≤◌, [], replicate, vec_capacity};
-ghost use Rattle.samples.specs.Internal.{ExtendsSome, cut_to};
+ghost use Rattle.std.specs.Prelude.{◌≡◌, ◌≤◌, [], replicate};
+ghost use Rattle.samples.specs.Internal.{cut_to};
 ghost use Rattle.samples.specs.Runs.{samples_of, rolled, Minimal};
 ghost use Rattle.samples.specs.Stream.{Extends};
 
-use crate::run::{Run, first_run};
+use crate::run::{Run, RunsOf};
 use std::alloc::{AllocError, Global};
+use std::marker::Model;
 
 /// The runs of a stream: the same, and as few as there can be, however it is handed over.
 #[derive(Drop)]
 pub struct Runs {
     list: Vec<Run>,
-    ghost packed: { rolled (samples_of list.items) ≡ list.items },
+}
+
+// The runs of a stream follow from its samples, and so contracts see the samples.
+impl Model for Runs {
+    ghost use Rattle.std.specs.Prelude.{◌≡◌, vec_capacity};
+    ghost use Rattle.samples.specs.Runs.{samples_of, rolled};
+    ghost use Rattle.samples.specs.Stream.{Kept};
+
+    ghost Value = { Kept };
+
+    ghost view = { λ a. record { samples = samples_of a.list.items; capacity = vec_capacity a.list } };
+
+    ghost invariant = { λ a. rolled (samples_of a.list.items) ≡ a.list.items };
 }
 
 impl Runs {
     /// The runs of no samples.
-    pub fn new(heap: Global) -> Runs
-        ensures { result.list.items ≡ [] }
+    pub fn new(alloc: Global) -> Runs
+        ensures { result.samples ≡ [] }
     {
         Runs {
-            list: Vec::new(heap),
+            list: Vec::new(alloc),
         }
     }
 
     /// The runs so far.
     pub fn as_slice(&self) -> &[Run]
-        ensures value { result.now ≡ self.now.list.items }
+        ensures value { result.now ≡ rolled self.now.samples }
         ensures minimal { Minimal (samples_of result.now) result.now }
     {
         self.list.as_slice()
@@ -34,48 +47,37 @@ impl Runs {
 
     /// Takes a run after those so far; one of no samples changes nothing, nor does want of memory.
     pub fn push(&mut self, run: Run) -> Result<(), AllocError>
-        ensures extends { Extends result self.old.list (replicate run.count run.sample) self.new.list }
-        ensures capacity { vec_capacity self.old.list ≤ vec_capacity self.new.list }
+        ensures extends { Extends result self.old (replicate run.count run.sample) self.new }
+        ensures capacity { self.old.capacity ≤ self.new.capacity }
     {
+        let last = self.list.last().copied();
         if run.count == 0 {
             return Ok(());
         }
-        let runs = self.list.len();
-        if runs == 0 {
+        let Some(last) = last else {
             self.list.push(run)?;
             return Ok(());
-        }
-        let (last, rest) = self.list[runs - 1].join(run);
+        };
+        let at = self.list.len() - 1;
+        let (last, rest) = last.join(run);
         if let Some(rest) = rest {
             self.list.push(rest)?;
         }
-        self.list[runs - 1] = last;
+        self.list[at] = last;
         Ok(())
     }
 
     /// Takes samples after those so far; want of memory changes nothing.
     pub fn extend(&mut self, samples: &[u16]) -> Result<(), AllocError>
-        ensures { Extends result self.old.list samples.now self.new.list }
+        ensures { Extends result self.old samples.now self.new }
     {
         let runs = self.list.len();
         let last = self.list.last().copied();
-        match self.take_in(samples) {
-            Ok(()) => Ok(()),
-            Err(e) => {
+        for run in RunsOf::new(samples) {
+            if let Err(e) = self.push(run) {
                 cut_back(&mut self.list, runs, last);
-                Err(e)
+                return Err(e);
             }
-        }
-    }
-
-    /// Takes samples after those so far, as many as there is memory for.
-    fn take_in(&mut self, samples: &[u16]) -> Result<(), AllocError>
-        ensures { ExtendsSome result self.old.list samples.now self.new.list }
-    {
-        let mut at = 0;
-        while let Some(run) = first_run(&samples[at..]) {
-            self.push(run)?;
-            at += usize::from(run.count);
         }
         Ok(())
     }
@@ -86,11 +88,7 @@ fn cut_back(list: &mut Vec<Run>, runs: usize, last: Option<Run>)
     ensures { list.new.items ≡ cut_to runs last list.old.items }
 {
     list.truncate(runs);
-    let Some(run) = last else {
-        return;
-    };
-    let end = list.len();
-    if end > 0 {
-        list[end - 1] = run;
+    if let (Some(end), Some(last)) = (list.last_mut(), last) {
+        *end = last;
     }
 }

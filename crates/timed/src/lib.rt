@@ -1,24 +1,21 @@
-//! What bench/ calls from C.
+//! What bench/ calls from C, where the largest number stands for a refusal.
 #![tactic(auto)]
 
-ghost use Rattle.std.specs.Prelude.{◌≡◌};
+ghost use Rattle.std.specs.Prelude.{◌≡◌, ℕ, Result};
 ghost use Rattle.samples.specs.Roll.{Rolls};
-ghost use Rattle.samples.specs.declared.answer.Done.{Done as Answer};
+ghost use Rattle.samples.specs.declared.refusal.Refusal.{Refusal};
 ghost use Rattle.timed.specs.Counts.{count_of};
 ghost use Rattle.uart.specs.Decoder.{serial_after};
 
-use samples::{Done, roll};
+use samples::roll;
 use uart::serial;
 
 /// How many runs `roll` leaves in the room, or the largest number where it refuses.
 #[unsafe(no_mangle)]
 pub extern "C" fn timed_roll(samples: &[u16], room: &mut [u16]) -> u64
-    ensures { (d : Answer) × Rolls samples.now room.old d room.new × (result ≡ count_of d) }
+    ensures { (r : Result ℕ Refusal) × Rolls samples.now room.old r room.new × (result ≡ count_of r) }
 {
-    match roll(samples, room) {
-        Done::Read(runs) => runs,
-        Done::Waiting | Done::Refused(_) => u64::MAX,
-    }
+    roll(samples, room).unwrap_or(u64::MAX)
 }
 
 /// How many words `serial` leaves in the room, or the largest number where it refuses.
@@ -34,8 +31,5 @@ pub extern "C" fn timed_serial(
     ensures memory { memory.new ≡ (serial_after bit line samples.now memory.old room.old).memory }
     ensures room { room.new ≡ (serial_after bit line samples.now memory.old room.old).room }
 {
-    match serial(bit, line, samples, memory, room) {
-        Done::Read(words) => words,
-        Done::Waiting | Done::Refused(_) => u64::MAX,
-    }
+    serial(bit, line, samples, memory, room).unwrap_or(u64::MAX)
 }

@@ -11,6 +11,8 @@ mod wave;
 use crate::random::Random;
 use crate::tally::Tally;
 use crate::wave::{Setting, Wave};
+use std::alloc::{AllocError, Global};
+use uart::Word;
 
 /// How many waves of each kind there are.
 const WAVES: u32 = 6000;
@@ -31,42 +33,39 @@ fn setting(random: &mut Random, wave: u32) -> Setting {
     Setting { bit, line }
 }
 
-/// Bytes in fair lengths: just these are read.
-fn fair(rt: &HostRuntime, random: &mut Random, tally: &mut Tally) -> anyhow::Result<()> {
-    let setting = setting(random, tally.waves);
-    let mut wave = Wave::new(rt.alloc(), setting);
-    let most = (100_000 / setting.bit.max(1)).min(30);
-    let sent = sender::send_some(rt.alloc(), &mut wave, random, most)?;
-    let read = pieces::read_cut(rt.alloc(), random, &wave)?;
-    tally.take(rt, setting, sent.as_slice(), read.as_slice())
+/// Sends bytes in fair lengths: just these are to be read.
+fn send_fair(alloc: Global, wave: &mut Wave, random: &mut Random) -> Result<Vec<Word>, AllocError> {
+    let most = (100_000 / wave.setting.bit.max(1)).min(30);
+    sender::send_some(alloc, wave, random, most)
 }
 
-/// Any wave: what a plain reader reads is read.
-fn any(rt: &HostRuntime, random: &mut Random, tally: &mut Tally) -> anyhow::Result<()> {
-    let setting = setting(random, tally.waves);
-    let mut wave = Wave::new(rt.alloc(), setting);
-    let most = (300_000 / setting.bit.max(1)).min(300).max(20);
+/// Holds levels of any lengths: what a plain reader reads is to be read.
+fn hold_any(alloc: Global, wave: &mut Wave, random: &mut Random) -> Result<Vec<Word>, AllocError> {
+    let most = (300_000 / wave.setting.bit.max(1)).clamp(20, 300);
     let runs = random.up_to(most);
     wave.hold_any(random, runs)?;
-    let whole = plain::read_whole(rt.alloc(), &wave)?;
-    let read = pieces::read_cut(rt.alloc(), random, &wave)?;
-    tally.take(rt, setting, whole.as_slice(), read.as_slice())
+    plain::read_whole(alloc, wave)
 }
 
-fn run(rt: &HostRuntime) -> anyhow::Result<()> {
-    let mut random = Random(1);
-    let mut sent = Tally::new();
-    for _ in 0..WAVES {
-        fair(rt, &mut random, &mut sent)?;
+/// Reads waves of one kind in pieces; `make` makes a wave, and says which words are to be read of it.
+fn try_waves<F>(rt: &HostRuntime, random: &mut Random, kind: &str, make: F) -> anyhow::Result<()>
+where
+    F: Fn(Global, &mut Wave, &mut Random) -> Result<Vec<Word>, AllocError> + Drop,
+    requires { F.IsAlwaysCallable make }
+{
+    let mut tally = Tally::default();
+    for number in 0..WAVES {
+        let setting = setting(random, number);
+        let mut wave = Wave::new(rt.alloc(), setting);
+        let wanted = make(rt.alloc(), &mut wave, random)?;
+        let read = pieces::read_cut(rt.alloc(), random, &wave)?;
+        tally.take(rt, setting, wanted.as_slice(), read.as_slice())?;
     }
-    sent.report(rt, "fair")?;
-    let mut whole = Tally::new();
-    for _ in 0..WAVES {
-        any(rt, &mut random, &mut whole)?;
-    }
-    whole.report(rt, "any")
+    tally.report(rt, kind)
 }
 
 fn main(rt: HostRuntime) -> anyhow::Result<()> {
-    run(&rt)
+    let mut random = Random(1);
+    try_waves(&rt, &mut random, "fair", send_fair)?;
+    try_waves(&rt, &mut random, "any", hold_any)
 }

@@ -1,62 +1,60 @@
 //! A plain reader of a whole wave, by places.
+ghost use Rattle.std.specs.Prelude.{◌<◌, ◌≤◌, length, IfSome};
+
 use crate::wave::Wave;
 use std::alloc::{AllocError, Global};
+use uart::Word;
 
 /// Whether the line is high at a place of a wave; nothing past its end.
 fn is_high_at(wave: &Wave, place: usize) -> Option<bool> {
-    match wave.samples.get(place) {
-        Some(sample) => Some(*sample & (1u16 << (wave.setting.line % 16)) != 0),
-        None => None,
-    }
+    let line = 1u16 << (wave.setting.line % 16);
+    wave.samples.get(place).map(|sample| *sample & line != 0)
 }
 
-/// The first place from `from` on that is low after a high one; before the first place it is high.
-fn next_fall(wave: &Wave, from: usize) -> Option<usize> {
-    for place in from..wave.samples.len() {
-        let before = match place.checked_sub(1) {
-            Some(before) => is_high_at(wave, before),
-            None => Some(true),
-        };
-        if before == Some(true) && is_high_at(wave, place) == Some(false) {
-            return Some(place);
-        }
-    }
-    None
+/// Whether a place is low after a high one; before the first place it is high.
+fn falls_at(wave: &Wave, place: usize) -> bool {
+    let before = place.checked_sub(1);
+    before.is_none_or(|before| is_high_at(wave, before) == Some(true))
+        && is_high_at(wave, place) == Some(false)
 }
 
-/// The byte whose first low sample is at a place, and whether its stop bit is high; nothing where the wave ends before that.
-fn byte_from(wave: &Wave, first_look: usize) -> Option<(u64, bool)> {
+/// The first place from `from` on at which the line falls.
+fn next_fall(wave: &Wave, from: usize) -> Option<usize>
+    ensures { IfSome result (λ place. (from ≤ place) × (place < length wave.now.samples.items)) }
+{
+    (from..wave.samples.len()).find(|place| falls_at(wave, *place))
+}
+
+/// The word whose look at the start bit is at a place; nothing where the wave ends before its last look.
+fn word_from(wave: &Wave, first_look: usize) -> Option<Word> {
     let bit = wave.setting.bit as usize;
-    let mut byte = 0u64;
-    for n in 1..=8u32 {
-        let look = first_look.saturating_add(bit.saturating_mul(n as usize));
-        if is_high_at(wave, look)? {
-            byte = byte.saturating_add(1 << (n - 1));
-        }
+    let look = |n: usize| is_high_at(wave, first_look.saturating_add(bit.saturating_mul(n)));
+    let mut byte = 0u8;
+    for n in 0..8 {
+        byte |= u8::from(look(n + 1)?) << n;
     }
-    let stop = is_high_at(wave, first_look.saturating_add(bit.saturating_mul(9)))?;
-    Some((byte, stop))
+    Some(if look(9)? {
+        Word::Byte(byte)
+    } else {
+        Word::Broken(byte)
+    })
 }
 
-/// Reads a whole wave: two numbers for each word.
-pub(crate) fn read_whole(heap: Global, wave: &Wave) -> Result<Vec<u64>, AllocError> {
+/// Reads a whole wave.
+pub(crate) fn read_whole(alloc: Global, wave: &Wave) -> Result<Vec<Word>, AllocError> {
     let bit = wave.setting.bit as usize;
-    let mut numbers = Vec::new(heap);
+    let mut words = Vec::new(alloc);
     let mut from = 0usize;
-    for _ in 0..wave.samples.len() {
-        let Some(fall) = next_fall(wave, from) else {
-            break;
-        };
+    while let Some(fall) = next_fall(wave, from) {
         let first_look = fall.saturating_add(bit / 2);
         from = first_look.saturating_add(1);
         if is_high_at(wave, first_look) == Some(false) {
-            let Some((byte, stop)) = byte_from(wave, first_look) else {
+            let Some(word) = word_from(wave, first_look) else {
                 break;
             };
-            numbers.push(if stop { 0 } else { 1 })?;
-            numbers.push(byte)?;
+            words.push(word)?;
             from = from.saturating_add(bit.saturating_mul(9));
         }
     }
-    Ok(numbers)
+    Ok(words)
 }

@@ -1,7 +1,7 @@
 //! Pseudo-random numbers.
 ghost use Rattle.std.specs.Prelude.{◌≤◌};
 
-/// A linear congruence.
+/// A linear congruence. Not one with that of `examples`, whose constants differ: what is printed is of these waves.
 #[derive(Clone, Copy)]
 pub struct Random(pub u64);
 

@@ -2,6 +2,7 @@
 use crate::random::Random;
 use crate::wave::Wave;
 use std::alloc::{AllocError, Global};
+use uart::Word;
 
 /// Level `n` of a byte: the start bit, the data bits with the low one first, the stop bit.
 fn level(byte: u8, n: u32) -> bool {
@@ -43,21 +44,20 @@ fn pause(random: &mut Random, bit: u32) -> u32 {
     }
 }
 
-/// Sends some bytes, and gives the numbers that they are to be read as.
+/// Sends some bytes, and gives the words that they are to be read as.
 pub(crate) fn send_some(
-    heap: Global,
+    alloc: Global,
     wave: &mut Wave,
     random: &mut Random,
     most: u32,
-) -> Result<Vec<u64>, AllocError> {
-    let mut sent = Vec::new(heap);
+) -> Result<Vec<Word>, AllocError> {
+    let mut sent = Vec::new(alloc);
     for _ in 0..=random.up_to(most) {
         let high = pause(random, wave.setting.bit);
         wave.hold(random, true, high)?;
         let byte = (random.sample() % 256) as u8;
         send(wave, random, byte)?;
-        sent.push(0)?;
-        sent.push(u64::from(byte))?;
+        sent.push(Word::Byte(byte))?;
     }
     Ok(sent)
 }

@@ -17,8 +17,8 @@ pub struct Wave {
 }
 
 impl Wave {
-    pub(crate) fn new(heap: Global, setting: Setting) -> Wave {
-        let samples = Vec::new(heap);
+    pub(crate) fn new(alloc: Global, setting: Setting) -> Wave {
+        let samples = Vec::new(alloc);
         Wave { setting, samples }
     }
 

@@ -1,12 +1,8 @@
 -- A level as a number, and the bits of a byte. Assumes nothing.
-use Rattle.std.proofs.Common.{◌≡◌, ℕ, zero, suc, ◌+◌, ◌*◌, ◌/◌, ◌%◌, ◌^◌, ◌<◌, ◌≤◌, Bool, true, false, eqb, refl, arith}
+use Rattle.std.proofs.Common.{◌≡◌, ℕ, zero, suc, ◌+◌, ◌*◌, ◌/◌, ◌%◌, ◌^◌, ◌<◌, Bool, true, false, eqb, refl, arith}
 use mir.Val.{bool_byte}
 use Rattle.std.proofs.lemmas.Nat.{mod-pow-add}
 use Rattle.uart.specs.Decoder.{digit}
-
-pub digit_small : (x : Bool) → digit x ≤ 1
-digit_small true = omega arith
-digit_small false = omega arith
 
 -- what `u8::from` makes of a level
 pub byte_is_digit : (x : Bool) → bool_byte x ≡ digit x

@@ -1,10 +1,10 @@
 -- Which level of a byte a sample of its wave belongs to, and what the levels of a line are to a reader. Assumes nothing.
-use Rattle.std.proofs.Common.{◌≡◌, ℕ, zero, suc, ◌+◌, ◌-◌, ◌*◌, ◌<◌, ◌≤◌, Bool, true, false, cond, not, ◌&&◌, eqb, leb, List, [], ◌∷◌, map, length, get_or, replicate, refl, ap, ◌∙◌, suc-mul, arith, length-append}
+use Rattle.std.proofs.Common.{◌≡◌, ℕ, zero, suc, ◌+◌, ◌-◌, ◌*◌, ◌<◌, ◌≤◌, Bool, true, List, [], ◌∷◌, map, length, get_or, replicate, refl, ap, ◌∙◌, suc-mul, arith, rules, length-append}
 use Rattle.std.specs.Option.{option_map}
 use Rattle.std.proofs.lemmas.List.{get_or_append_left, get_or-append_right, get_or-replicate, length-replicate}
 use Rattle.samples.specs.Line.{level}
 use Rattle.decoder.specs.Machine.{run, before, outputs_at}
-use Rattle.uart.specs.declared.words.Reader.{Reader}
+use Rattle.uart.specs.declared.words.State.{State}
 use Rattle.uart.specs.Decoder.{on_level, read_at, step, emit}
 use Rattle.uart.specs.Wave.{level_of, levels_from, begin, EqualLengthsAreFair}
 
@@ -63,22 +63,15 @@ in_level v n (l ∷ ls) (suc i) q h a b =
 
 -- A LINE'S LEVELS
 
-either_line : (b : Bool) (r s : Reader) (k : ℕ) → r.line ≡ k → s.line ≡ k → (cond b r s).line ≡ k
-either_line true r s k e f = e
-either_line false r s k e f = f
-
-same_line : (r : Reader) (x : Bool) → (on_level r x).line ≡ r.line
-same_line r x =
-    either_line r.busy _ _ _
-    (either_line (eqb r.wait 0) _ _ _ (either_line (eqb r.next 0) _ _ _ (either_line x _ _ _ refl refl) (either_line (leb r.next 8) _ _ _ refl refl)) refl)
-    (either_line (r.level && not x) _ _ _ refl refl)
+same_line : (r : State) (x : Bool) → (on_level r x).line ≡ r.line
+same_line = search rules
 
 -- a reader comes to the same over samples and over the levels of its line
-pub line_run : (r : Reader) (ss : List ℕ) → run step r ss ≡ run on_level r (map (level r.line) ss)
+pub line_run : (r : State) (ss : List ℕ) → run step r ss ≡ run on_level r (map (level r.line) ss)
 line_run r [] = refl
 line_run r (s ∷ ss) = line_run (step r s) ss ∙ ap (λ k. run on_level (step r s) (map (level k) ss)) (same_line r (level r.line s))
 
-pub line_words : (p : ℕ) (r : Reader) (ss : List ℕ) → outputs_at step emit p r ss ≡ outputs_at on_level read_at p r (map (level r.line) ss)
+pub line_words : (p : ℕ) (r : State) (ss : List ℕ) → outputs_at step emit p r ss ≡ outputs_at on_level read_at p r (map (level r.line) ss)
 line_words p r [] = refl
 line_words p r (s ∷ ss) =
     ap (before (option_map (λ w. (p, w)) (emit r s)))

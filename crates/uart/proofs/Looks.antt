@@ -4,18 +4,18 @@ use Rattle.std.specs.Option.{option_map}
 use Rattle.std.proofs.lemmas.List.{get_or-drop, drop-drop}
 use Rattle.std.proofs.lemmas.Bool.{ne_eqb, le-leb, true≢false, cases_lt}
 use Rattle.decoder.specs.Machine.{run, before, outputs_at}
-use Rattle.uart.specs.declared.words.Reader.{Reader}
+use Rattle.uart.specs.declared.words.State.{State}
 use Rattle.uart.specs.declared.words.Word.{Word}
 use Rattle.uart.specs.Decoder.{idle, under_way, looked, word_at, on_level, read_at, fresh}
 use Rattle.uart.specs.Rule.{look_place, look, bits_at, word_of}
 
 -- from place p, a reader and levels to others, with the words that are read on the way
-pub record Comes (p : ℕ) (s : Reader) (xs : List Bool) (ws : List (ℕ × Word)) (q : ℕ) (t : Reader) (ys : List Bool) : Type 0 where
+pub record Comes (p : ℕ) (s : State) (xs : List Bool) (ws : List (ℕ × Word)) (q : ℕ) (t : State) (ys : List Bool) : Type 0 where
   pub states : run on_level s xs ≡ run on_level t ys
   pub words : outputs_at on_level read_at p s xs ≡ ws ++ outputs_at on_level read_at q t ys
 
 pub and_then :
-    (p : ℕ) (s : Reader) (xs : List Bool) (vs : List (ℕ × Word)) (q : ℕ) (t : Reader) (ys : List Bool) (ws : List (ℕ × Word)) (o : ℕ) (u : Reader) (zs : List Bool) →
+    (p : ℕ) (s : State) (xs : List Bool) (vs : List (ℕ × Word)) (q : ℕ) (t : State) (ys : List Bool) (ws : List (ℕ × Word)) (o : ℕ) (u : State) (zs : List Bool) →
     Comes p s xs vs q t ys → Comes q t ys ws o u zs → Comes p s xs (vs ++ ws) o u zs
 and_then p s xs vs q t ys ws o u zs f g =
     record {
@@ -32,7 +32,7 @@ before-is : (q : ℕ) (o : Option Word) (ws : List (ℕ × Word)) → before (op
 before-is q None ws = refl
 before-is q (Some v) ws = refl
 
-module _ (r : Reader) where
+module _ (r : State) where
   look_run :
       (x : Bool) (w n b : ℕ) (ys : List Bool) → w < length ys →
       run on_level (under_way r x w n b) ys ≡ run on_level (looked (under_way r true 0 n b) (get_or ys w true)) (drop (suc w) ys)
@@ -70,7 +70,7 @@ module _ (r : Reader) where
 
   -- the next look, at place q, leaves the reader t and reads o
   one_look :
-      (p q : ℕ) (x : Bool) (w n b : ℕ) (ys : List Bool) (t : Reader) (o : Option Word) → w < length ys → p + w ≡ q →
+      (p q : ℕ) (x : Bool) (w n b : ℕ) (ys : List Bool) (t : State) (o : Option Word) → w < length ys → p + w ≡ q →
       looked (under_way r true 0 n b) (get_or ys w true) ≡ t → word_at (under_way r true 0 n b) (get_or ys w true) ≡ o →
       Comes p (under_way r x w n b) ys (placed q o) (q + 1) t (drop (suc w) ys)
   one_look p q x w n b ys t o h e f g =
@@ -90,12 +90,12 @@ fall d k p (false ∷ ys) e = record { states = refl; words = refl }
 
 module _ (d k p : ℕ) (two : 2 ≤ d) (xs : List Bool) where
   -- after the level at q
-  abbrev After : (ws : List (ℕ × Word)) (q : ℕ) (t : Reader) → Type 0
+  abbrev After : (ws : List (ℕ × Word)) (q : ℕ) (t : State) → Type 0
   After ws q t = Comes p (fresh d k) xs ws (p + suc q) t (drop (suc q) xs)
 
   -- the look after that at q, with w levels between
   next_look :
-      (q w m : ℕ) (x : Bool) (n b : ℕ) (t : Reader) (o : Option Word) → suc q + w ≡ m → m < length xs →
+      (q w m : ℕ) (x : Bool) (n b : ℕ) (t : State) (o : Option Word) → suc q + w ≡ m → m < length xs →
       looked (under_way (fresh d k) true 0 n b) (get_or xs m true) ≡ t → word_at (under_way (fresh d k) true 0 n b) (get_or xs m true) ≡ o →
       After [] q (under_way (fresh d k) x w n b) → After (placed (p + m) o) m t
   next_look q w m x n b t o far h f g here =

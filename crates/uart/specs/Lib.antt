@@ -1,6 +1,7 @@
 pub mod Decoder
 pub mod Examples
 pub mod Memory
+pub mod Readers
 pub mod Rule
 pub mod Sound
 pub mod Stream

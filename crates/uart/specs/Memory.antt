@@ -5,7 +5,7 @@ use Rattle.std.proofs.lemmas.Bool.{cond-false, cond_both, eqb-true, leb-false, l
 use Rattle.samples.specs.Line.{level}
 use Rattle.uart.specs.declared.words.Word.{Word}
 use Rattle.uart.specs.declared.words.Word.TheVariants.{Byte, Broken}
-use Rattle.uart.specs.declared.words.Reader.{Reader}
+use Rattle.uart.specs.declared.words.State.{State}
 use Rattle.uart.specs.Decoder.{digit, step, encoded, saved, reader_in, restored}
 use Rattle.uart.specs.Sound.{Sound}
 
@@ -15,9 +15,9 @@ length-encoded (Byte v) = refl
 length-encoded (Broken v) = refl
 
 -- a sample changes no setting
-pub restored-step : (s : Reader) (x : ℕ) (m : List ℕ) → restored (step s x) m ≡ restored s m
+pub restored-step : (s : State) (x : ℕ) (m : List ℕ) → restored (step s x) m ≡ restored s m
 restored-step s x m =
-    let Same : Reader → Type 0 = λ r. restored r m ≡ restored s m in
+    let Same : State → Type 0 = λ r. restored r m ≡ restored s m in
     let l = level s.line x in
     cond_both s.busy _ _ Same
     (λ _.
@@ -38,10 +38,10 @@ digit-back : (b : Bool) → (digit b == 1) ≡ b
 digit-back true = refl
 digit-back false = refl
 
-reader_in-saved : (s : Reader) → reader_in s (saved s) ≡ s
+reader_in-saved : (s : State) → reader_in s (saved s) ≡ s
 reader_in-saved s = rw (digit-back s.busy, digit-back s.level)
 
-pub restored-saved : (s : Reader) → Sound s → restored s (saved s) ≡ Ok s
+pub restored-saved : (s : State) → Sound s → restored s (saved s) ≡ Ok s
 restored-saved s h =
     cond-false _ _ _ (digit-few s.busy) ∙ cond-false _ _ _ (digit-few s.level) ∙ cond-false _ _ _ (lt-leb s.bit s.wait h.wait_small)
     ∙ cond-false _ _ _ (le-ltb 9 s.next h.next_small) ∙ cond-false _ _ _ (lt-leb (2 ^ (s.next - 1)) s.bits h.bits_small) ∙ ap Ok (reader_in-saved s)
@@ -49,20 +49,20 @@ restored-saved s h =
 -- WHAT IS RESTORED IS SOUND
 
 -- it also has the settings that were asked for
-abbrev Opened : (s t : Reader) (m : List ℕ) → Type 0
+abbrev Opened : (s t : State) (m : List ℕ) → Type 0
 Opened s t m = Sound t × (length m ≡ 5) × ((n : List ℕ) → restored t n ≡ restored s n)
 
-not_err : {X : Type 0} (t : Reader) (place : ℕ) → ◌≡◌ {A = Result Reader ℕ} (Err place) (Ok t) → X
+not_err : {X : Type 0} (t : State) (place : ℕ) → ◌≡◌ {A = Result State ℕ} (Err place) (Ok t) → X
 not_err t place e = absurd cc
 
-opened-in : (s t : Reader) (m : List ℕ) → Opened s (reader_in s m) m → ◌≡◌ {A = Result Reader ℕ} (Ok (reader_in s m)) (Ok t) → Opened s t m
+opened-in : (s t : State) (m : List ℕ) → Opened s (reader_in s m) m → ◌≡◌ {A = Result State ℕ} (Ok (reader_in s m)) (Ok t) → Opened s t m
 opened-in s t m o e =
     let same : reader_in s m ≡ t = cc in
     subst (λ r. Opened s r m) same o
 
-pub opened : (s t : Reader) (m : List ℕ) → Sound s → restored s m ≡ Ok t → Opened s t m
+pub opened : (s t : State) (m : List ℕ) → Sound s → restored s m ≡ Ok t → Opened s t m
 opened s t m h =
-    let Opens : Result Reader ℕ → Type 0 = λ r. r ≡ Ok t → Opened s t m in
+    let Opens : Result State ℕ → Type 0 = λ r. r ≡ Ok t → Opened s t m in
     cond_both (length m == 5) _ _ Opens
     (λ long.
     cond_both (nat_lt 1 (slice_index m 0)) _ _ Opens (λ _. not_err t 0)

@@ -2,7 +2,7 @@
 use Rattle.std.specs.Prelude.{◌≡◌, ℕ, zero, suc, ◌+◌, ◌*◌, ◌/◌, ◌^◌, ◌<◌, ◌≤◌, Bool, true, cond, not, ◌&&◌, List, [], ◌∷◌, map, length, drop, Ok, nat_le, slice_index_or}
 use Rattle.samples.specs.Line.{level}
 use Rattle.decoder.specs.Machine.{outputs, outputs_at}
-use Rattle.uart.specs.declared.words.Reader.{Reader}
+use Rattle.uart.specs.declared.words.State.{State}
 use Rattle.uart.specs.declared.words.Word.{Word}
 use Rattle.uart.specs.declared.words.Word.TheVariants.{Byte, Broken}
 use Rattle.uart.specs.Decoder.{digit, step, emit, restored, fresh}
@@ -60,5 +60,5 @@ AllBytes (w ∷ ws) = (value_of w < 256) × AllBytes ws
 -- EACH WORD HOLDS A BYTE, from whatever memory the reading goes on.
 abbrev pub BytesOnly : Type 0
 BytesOnly =
-    (d k : ℕ) (memory : List ℕ) (r : Reader) (samples : List ℕ) → 2 ≤ d → d ≤ 1000000 → k ≤ 15 → restored (fresh d k) memory ≡ Ok r →
+    (d k : ℕ) (memory : List ℕ) (r : State) (samples : List ℕ) → 2 ≤ d → d ≤ 1000000 → k ≤ 15 → restored (fresh d k) memory ≡ Ok r →
     AllBytes (outputs step emit r samples)

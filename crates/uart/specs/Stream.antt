@@ -1,7 +1,6 @@
 -- What is promised of calls of `serial` on the pieces of a stream. Assumes nothing: these are definitions and statements.
-use Rattle.std.specs.Prelude.{◌≡◌, ℕ, ◌+◌, ◌*◌, ◌≤◌, true, ◌⊎◌, List, [], ◌∷◌, ◌++◌, map, length}
+use Rattle.std.specs.Prelude.{◌≡◌, ℕ, ◌+◌, ◌*◌, ◌≤◌, true, ◌⊎◌, List, [], ◌∷◌, ◌++◌, map, length, Ok}
 use Rattle.std.specs.List.{flat_map}
-use Rattle.samples.specs.declared.answer.Done.TheVariants.{Read}
 use Rattle.samples.specs.Line.{level}
 use Rattle.samples.specs.Roll.{filled}
 use Rattle.decoder.specs.Machine.{run, placed_within}
@@ -37,7 +36,7 @@ abbrev pub ReadsItsShare : (bit line : ℕ) → (samples memory room : List ℕ)
 ReadsItsShare d k samples memory room after =
     (words : List (ℕ × Word)) (before rest : List ℕ) → InRange d k → Carries d k (before ++ (samples ++ rest)) words → Follows d k before memory →
     length samples ≤ 65535 → length (flat_map encoded (share words before samples)) ≤ length room →
-    (after.answer ≡ Read (length (share words before samples))) × Follows d k (before ++ samples) after.memory
+    (after.answer ≡ Ok (length (share words before samples))) × Follows d k (before ++ samples) after.memory
     × (after.room ≡ filled (flat_map encoded (share words before samples)) room)
 
 -- ALL CALLS
@@ -55,7 +54,7 @@ calls d k memory (c ∷ cs) = serial_after d k c.piece memory c.room ∷ calls d
 -- no call is refused
 abbrev pub AllRead : List After → Type 0
 AllRead [] = Unit {0}
-AllRead (a ∷ rest) = ((n : ℕ) × (a.answer ≡ Read n)) × AllRead rest
+AllRead (a ∷ rest) = ((n : ℕ) × (a.answer ≡ Ok n)) × AllRead rest
 
 -- no piece is too long, and each room holds a word for each sample
 abbrev pub AllAmple : List Call → Type 0

@@ -11,4 +11,4 @@ pub use theorems::{
     equal_lengths_are_fair, fair_waves_are_read, looks_are_read, only_bytes_are_read,
     streams_are_read, two_calls_read_the_same, worked_examples,
 };
-pub use words::{Reader, Word};
+pub use words::{Reader, State, Word};

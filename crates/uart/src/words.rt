@@ -1,5 +1,6 @@
 //! What is read from a serial line, and the reader.
-ghost use Rattle.std.specs.Prelude.{Some as Given};
+ghost use Rattle.std.specs.Prelude.{Some};
+ghost use Rattle.uart.specs.Sound.{Sound};
 ghost use Rattle.uart.specs.Word.{word_text};
 
 use std::fmt;
@@ -14,7 +15,7 @@ pub enum Word {
 }
 
 impl fmt::Display for Word {
-    ghost output = { λ w. Given (word_text w) };
+    ghost output = { λ w. Some (word_text w) };
 
     fn fmt<W: fmt::Write>(&self, f: &mut fmt::Formatter<W>) -> fmt::Result {
         match *self {
@@ -24,20 +25,27 @@ impl fmt::Display for Word {
     }
 }
 
-/// Reads a serial line sample by sample: its settings, and what it remembers.
+/// Reads a serial line sample by sample.
 #[derive(Clone, Copy)]
 pub struct Reader {
+    pub(crate) state: State,
+    pub ghost sound: { Sound state },
+}
+
+/// The settings of a reader, and what it remembers.
+#[derive(Clone, Copy)]
+pub struct State {
     /// How many samples a bit is.
     pub(crate) bit: u32,
     /// The line that is read.
     pub(crate) line: u32,
-    /// Whether a byte is under way.
+    /// Whether a byte is under way. The wait, the look and the bits are no `Option` beside it: a lent memory that says no may hold any of them, and a piece of no samples leaves them as they were.
     pub(crate) busy: bool,
     /// The level before.
     pub(crate) level: bool,
     /// How many samples to wait before the next look.
     pub(crate) wait: u32,
-    /// Which look comes next: 0 the start bit, 1 to 8 the data bits, 9 the stop bit.
+    /// Which look comes next: 0 the start bit, 1 to 8 the data bits, 9 the stop bit. A number, as in the lent memory: the place of the look and the weight of its bit follow from it.
     pub(crate) next: u8,
     /// The data bits so far.
     pub(crate) bits: u8,

@@ -1,4 +1,4 @@
-use Rattle.decoder.proofs.Calls.{goes_on, cut_is_read}
+use Rattle.decoder.proofs.Calls.{restored_after, cut_is_read}
 use Rattle.decoder.proofs.Cut.{machine_is_cut}
 use Rattle.decoder.proofs.theorems.any_cut_reads_the_same.Goals as goal
 
@@ -9,7 +9,7 @@ returns g c =
     let l = g.met.D.Decoder in
     record {
       machine = machine_is_cut m.step m.emit;
-      calls =
-          cut_is_read m.sound m.step m.emit d.encoded d.width d.saved d.restored l.sized
-          (goes_on m.sound m.step d.restored m.keeps l.same d.size d.saved l.opens l.back);
+      calls = λ settings.
+          cut_is_read m.step m.emit d.encoded d.WIDTH d.saved d.restored l.sized (m.state settings)
+          (restored_after m.state m.step d.size d.saved d.restored g.met.D.Machine.goes_on l.opens l.back l.same settings);
     }

@@ -1,30 +1,19 @@
-use Rattle.std.proofs.Common.{vec_items, sym, ap, ◌∙◌}
+use Rattle.std.proofs.Common.{Ok, sym, ap, ◌∙◌}
+use Rattle.std.specs.Result.{result_map_both}
 use Rattle.samples.specs.Runs.{samples_of}
-use Rattle.std.proofs.lemmas.Result.{err_from_is_err_and}
-use Rattle.samples.proofs.Fewest.{rolled-minimal, packed_minimal}
-use Rattle.formats.specs.Capture.{samples_given}
-use Rattle.formats.specs.Text.{text_of}
-use Rattle.formats.proofs.Captures.{memory_fails, text_some}
+use Rattle.samples.proofs.Rolled.{rolled-gives}
+use Rattle.samples.proofs.Fewest.{rolled-minimal}
 use Rattle.formats.proofs.capture.compact.Goals as goal
 
 pub returns : goal.returns
 returns c =
-    let runs = c.in_ok-runs.runs in
+    let ss = c.in_ok-runs.runs.samples in
     let wrote = c.in_ok-write_capture.ensures in
     let given = c.in_ok-runs.ensures in
     record {
-      samples = samples_of (vec_items runs.list);
+      samples = ss;
       given = given;
-      written = wrote.0 ∙ ap text_of (sym runs.packed);
-      minimal = rolled-minimal (samples_of (vec_items runs.list));
-      same = ap samples_given wrote.1 ∙ sym given;
+      written = wrote.0;
+      minimal = rolled-minimal ss;
+      same = ap (result_map_both samples_of (λ f. f)) (wrote.1 0) ∙ ap Ok (rolled-gives ss) ∙ sym given;
     }
-
-pub returns-in_err-write_capture : goal.returns-in_err-write_capture
-returns-in_err-write_capture c =
-    let runs = c.in_ok-runs.runs in
-    let result = c.from_residual-in_err-write_capture.result in
-    let p = err_from_is_err_and result c.from_residual-in_err-write_capture.ensures.1 in
-    let formed = (packed_minimal (vec_items runs.list) runs.packed).formed in
-    memory_fails _ c.args.text.now result p.0 p.1 p.2
-    (text_some c.args.text.now (vec_items runs.list) c.in_ok-runs.ensures formed c.in_err-write_capture.ensures)

@@ -1,28 +1,28 @@
-use Rattle.std.proofs.Common.{◌≡◌, ◌++◌, Ok, vec_items, ap, ◌∙◌, subst, arith}
-use Rattle.formats.specs.Text.{text_of, runs_in}
+use Rattle.std.proofs.Common.{◌≡◌, ℕ, ◌≤◌, [], ◌∷◌, ◌++◌, Ok, get_or, string_bytes, sym, ap, ◌∙◌, subst, arith, rules}
+use Rattle.std.proofs.lemmas.List.{take_all}
+use Rattle.std.proofs.lemmas.List.Elements.{All-more}
+use Rattle.samples.specs.declared.run.Run.{Run}
+use Rattle.formats.specs.Text.{line_of, text_of, runs_in, SixteenBit}
 use Rattle.formats.proofs.Back.{round_trip}
-use Rattle.formats.proofs.Writing.{written_more, written_all}
+use Rattle.formats.proofs.Writing.{text_more, line_written}
 use Rattle.formats.proofs.capture.write_capture.Goals as goal
 
-pub loop-run-init : goal.loop-run-init
-loop-run-init c =
-    let none = c.reserve.ensures.items ∙ c.new-out.ensures.items in (
-      (ap (λ l. l ++ text_of c.as_slice-list.result.now) none, tt),
-      omega (arith, c.in_ok-reserve.ensures.ok, c.in-Some.ensures),
-    )
-
-pub put_line-requires : goal.put_line-requires
-put_line-requires c = omega (arith, c.loop-run.invariant.1, c.loop-run-test.true)
-
 pub loop-run-preserved : goal.loop-run-preserved
-loop-run-preserved c = (
-  written_more c.as_slice-list.result.now c.loop-run.run-index _ _ _ c.loop-run-test.true c.loop-run.invariant.0 c.put_line.ensures.items c.put_line.ensures.bound,
-  omega (arith, c.put_line.ensures.len, c.put_line.ensures.capacity, c.loop-run.invariant.1),
-)
+loop-run-preserved c =
+    let rs = c.as_slice-runs.result.now in
+    let i = c.loop-run.run-index in
+    let zero : Run = record { sample = 0; count = 0 } in
+    let bits : (get_or rs i zero).sample ≤ 65535 = search rules in (
+      line_written (get_or rs i zero) _ _ _ _ _ _ _ _ _ c.in_ok-push_str.ensures.bytes c.in_ok-push.ensures.bytes c.in_ok-push_str-2.ensures.bytes c.in_ok-push-2.ensures.bytes
+          c.format.ensures.text (c.in_ok-push.ensures.ascii (omega arith)) c.format-in-loop-run.ensures.text (c.in_ok-push-2.ensures.ascii (omega arith))
+          ∙ ap (λ l. l ++ (line_of (get_or rs i zero) ++ (10 ∷ []))) c.loop-run.invariant.0 ∙ sym (text_more rs i zero c.loop-run-test.true),
+      All-more (λ r. r.sample ≤ 65535) rs i zero c.loop-run-test.true c.loop-run.invariant.1 bits,
+    )
 
 pub returns : goal.returns
 returns c =
-    let rs = c.as_slice-list.result.now in
-    let all = written_all rs c.loop-run.run-index (vec_items c.loop-run.out) c.loop-run-test.false c.loop-run.invariant.0 in
-    subst (λ qs. (vec_items c.loop-run.out ≡ text_of qs) × (runs_in (vec_items c.loop-run.out) ≡ Ok qs)) c.as_slice-list.ensures.value
-    (all.0, ap runs_in all.0 ∙ round_trip rs c.as_slice-list.ensures.minimal.formed all.1)
+    let rs = c.as_slice-runs.result.now in
+    let all = take_all c.loop-run.run-index rs c.loop-run-test.false in
+    let text = c.loop-run.invariant.0 ∙ ap text_of all in
+    subst (λ qs. (string_bytes c.loop-run.out ≡ text_of qs) × ((n : ℕ) → runs_in n (string_bytes c.loop-run.out) ≡ Ok qs)) c.as_slice-runs.ensures.value
+    (text, λ n. ap (runs_in n) text ∙ round_trip n rs c.as_slice-runs.ensures.minimal.formed (subst SixteenBit all c.loop-run.invariant.1))

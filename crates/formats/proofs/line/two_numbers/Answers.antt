@@ -1,52 +1,44 @@
-use Rattle.std.proofs.Common.{◌-◌, ◌∷◌, length, take, drop, rules}
-use Rattle.formats.specs.Internal.{Front}
-use Rattle.formats.proofs.Numbers.{front_to}
-use Rattle.formats.proofs.Lines.{no_sample, no_space, no_count, no_end, front_at, ends_text, ends_newline}
+use Rattle.std.proofs.Common.{◌++◌, Some, None, subst}
+use Rattle.std.proofs.lemmas.Bool.Decides.{Decides-eqb}
+use Rattle.std.proofs.lemmas.Slice.Eq.{strip_prefix_is}
+use Rattle.formats.proofs.Lines.{Read, no_first, no_between, no_second, no_end}
 use Rattle.formats.proofs.line.two_numbers.Goals as goal
-use Rattle.formats.proofs.line.two_numbers.Goals.{In-32}
+use Rattle.formats.proofs.line.two_numbers.Goals.{In_ok-strip_prefix}
 
--- a space follows the sample
-spaced :
-    (c : In-32) →
-    Front c.args.text.now c.in_ok-sample.sample (32 ∷ take (length c.in_ok-sample.rest.now - 1) (drop 1 c.in_ok-sample.rest.now))
-spaced c =
-    front_at c.args.text.now c.in_ok-sample.rest.now c.in_ok-sample.sample 32 (front_to _ _ _ c.in_ok-sample.ensures.0) (search rules) (search rules)
+-- `between` follows the first number
+parted : (c : In_ok-strip_prefix) → Read c.args.text.now c.in_ok-first.first (c.args.between.now ++ c.in_ok-strip_prefix.field-0.now)
+parted c =
+    subst (Read c.args.text.now c.in_ok-first.first)
+    (strip_prefix_is Decides-eqb c.in_ok-first.rest.now c.args.between.now (Some c.in_ok-strip_prefix.field-0) c.in_ok-strip_prefix.ensures.cases)
+    c.in_ok-first.ensures
 
-pub returns-in_err-sample : goal.returns-in_err-sample
-returns-in_err-sample c = rw c.from_residual.ensures (no_sample c.args.text.now c.in_err-sample.ensures)
+pub returns-in_err-first : goal.returns-in_err-first
+returns-in_err-first c = rw c.from_residual.ensures (no_first c.in_err-first.ensures)
 
-pub returns-in_default : goal.returns-in_default
-returns-in_default c =
-    let read = c.in_ok-sample.ensures in
-    no_space c.args.text.now c.in_ok-sample.rest.now c.in_ok-sample.sample (front_to _ _ _ read.0) read.1 (λ some is. search rules)
+pub returns-in_err-strip_prefix : goal.returns-in_err-strip_prefix
+returns-in_err-strip_prefix c =
+    rw c.from_residual-in_err-strip_prefix.ensures
+    (no_between c.in_ok-first.rest.now c.in_ok-first.first c.in_ok-first.ensures
+    (strip_prefix_is Decides-eqb c.in_ok-first.rest.now c.args.between.now None c.in_err-strip_prefix.ensures.cases))
 
-pub returns-in_err-count : goal.returns-in_err-count
-returns-in_err-count c =
-    rw c.from_residual-in_err-count.ensures
-    (no_count c.args.text.now _ c.in_ok-sample.sample (spaced (goal.at.returns-in_err-count c).In-32) c.in_err-count.ensures)
+pub returns-in_err-second : goal.returns-in_err-second
+returns-in_err-second c =
+    rw c.from_residual-in_err-second.ensures (no_second _ (parted (goal.at.returns-in_err-second c).In_ok-strip_prefix) c.in_err-second.ensures)
 
-pub returns-in-empty : goal.returns-in-empty
-returns-in-empty c =
+pub returns-in_err-end_line : goal.returns-in_err-end_line
+returns-in_err-end_line c =
+    rw c.from_residual-in_err-end_line.ensures
+    (no_end _ (parted (goal.at.returns-in_err-end_line c).In_ok-strip_prefix) c.in_ok-second.rest.now c.in_ok-second.second c.in_ok-second.ensures
+    c.in_err-end_line.ensures)
+
+pub returns : goal.returns
+returns c =
+    let first = parted (goal.at.returns c).In_ok-strip_prefix in
     record {
-      rest = _;
-      end = c.in_ok-count.rest.now;
-      sample = spaced (goal.at.returns-in-empty c).In-32;
-      count = front_to _ _ _ c.in_ok-count.ensures.0;
-      ends = ends_text c.in_ok-count.rest.now (search rules);
+      rest = c.in_ok-strip_prefix.field-0.now;
+      end = c.in_ok-second.rest.now;
+      first = first.0;
+      parted = first.1;
+      second = c.in_ok-second.ensures.0;
+      ends = c.in_ok-end_line.ensures;
     }
-
-pub returns-in-10 : goal.returns-in-10
-returns-in-10 c =
-    record {
-      rest = _;
-      end = c.in_ok-count.rest.now;
-      sample = spaced (goal.at.returns-in-10 c).In-32;
-      count = front_to _ _ _ c.in_ok-count.ensures.0;
-      ends = ends_newline c.in_ok-count.rest.now (search rules) (search rules);
-    }
-
-pub returns-in_default-rest : goal.returns-in_default-rest
-returns-in_default-rest c =
-    let read = c.in_ok-count.ensures in
-    no_end c.args.text.now _ c.in_ok-count.rest.now c.in_ok-sample.sample c.in_ok-count.count
-    (spaced (goal.at.returns-in_default-rest c).In-32) (front_to _ _ _ read.0) read.1 (search rules) (search rules)

@@ -1,9 +1,19 @@
-use Rattle.std.proofs.Common.{◌*◌, ◌≤◌, string_bytes}
-use Rattle.readout.proofs.Lines.{Along}
+use Rattle.std.proofs.Common.{◌≤◌, ◌+◌, ◌-◌, ◌*◌, ◌++◌, drop, replicate, string_bytes}
+use Rattle.samples.specs.Runs.{samples_of}
+use Rattle.readout.specs.Listing.{shown}
+use Rattle.readout.proofs.Lines.{Lists}
 use Rattle.readout.proofs.listing.list.Given as goal
+
+abbrev pub invariant-loop-at : goal.invariant-loop-at
+invariant-loop-at g l =
+    let m = g.D.Machine in
+    Lists m.step m.emit (shown g.D.Output.Display.output) (m.state l.fn.reader) (samples_of l.runs) (m.state l.reader) l.at
+    (replicate (l.end - l.at) l.run.sample ++ samples_of (drop (l.run-index + 1) l.runs)) (string_bytes l.out)
 
 abbrev pub invariant-loop-run : goal.invariant-loop-run
 invariant-loop-run g l =
     let m = g.D.Machine in
-    m.sound l.reader × (l.place ≤ 65535 * l.run-index)
-    × Along m.step m.emit g.D.Listed.words l.initial.reader l.runs l.reader l.run-index l.place (string_bytes l.out)
+    record {
+      near : l.place ≤ 65535 * l.run-index;
+      lists : Lists m.step m.emit (shown g.D.Output.Display.output) (m.state l.fn.reader) (samples_of l.runs) (m.state l.reader) l.place (samples_of (drop l.run-index l.runs)) (string_bytes l.out);
+    }

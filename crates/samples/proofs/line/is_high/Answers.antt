@@ -1,11 +1,7 @@
-use Rattle.std.proofs.Common.{◌/◌, ◌%◌, ◌^◌, ◌<◌, ◌≤◌, eqb, sym, ap, ◌∙◌, arith, pow_mono}
+use Rattle.std.proofs.Common.{◌%◌, ◌^◌, ◌<◌, ◌≤◌, eqb, sym, ap, ◌∙◌, arith, pow_mono}
 use native.Mathlib.Nat.{div-eq_of_lt}
-use Rattle.std.proofs.lemmas.Nat.{and_mask}
 use Rattle.std.proofs.lemmas.Bool.{le-ltb}
 use Rattle.samples.proofs.line.is_high.Goals as goal
-
-pub returns-then-line-lt16 : goal.returns-then-line-lt16
-returns-then-line-lt16 c = ap (λ n. eqb n 1) (and_mask (c.args.sample / 2 ^ c.args.line) 1)
 
 -- a sample is below 2 ^ 16, so that a line above 15 is low
 pub returns-else-line-lt16 : goal.returns-else-line-lt16

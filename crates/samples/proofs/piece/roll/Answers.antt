@@ -6,10 +6,10 @@ use Rattle.samples.proofs.piece.roll.Goals as goal
 pub returns-then-room-runs : goal.returns-then-room-runs
 returns-then-room-runs c =
     let fewest = (rolled-minimal c.args.samples.now).fewest in
-    (inr (refl, refl, c.if-samples-gt-MOST_SAMPLES.false, λ rs formed gives. omega (arith, fewest rs formed gives, c.count_runs-runs.ensures.value, c.if-room-runs.true)), refl)
+    (inr (refl, refl, c.in_ok-check_piece.ensures, λ rs formed gives. omega (arith, fewest rs formed gives, c.count_runs-runs.ensures.value, c.if-room-runs.true)), refl)
 
 pub returns : goal.returns
 returns c = (
-  c.if-samples-gt-MOST_SAMPLES.false,
+  c.in_ok-check_piece.ensures,
   (rolled c.args.samples.now, rolled-minimal c.args.samples.now, c.count_runs-runs.ensures.value, c.if-room-runs.false, c.write_runs.ensures),
 )

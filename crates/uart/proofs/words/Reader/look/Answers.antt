@@ -2,13 +2,14 @@ use Rattle.std.proofs.Common.{◌≡◌, ◌-◌, ◌*◌, ◌%◌, ◌^◌, ◌
 use Rattle.std.proofs.lemmas.Bool.{le-leb, ne_eqb}
 use Rattle.std.proofs.lemmas.Nat.{shl_whole}
 use Rattle.uart.specs.Decoder.{digit}
-use Rattle.uart.proofs.Digits.{digit_small, byte_is_digit}
+use Rattle.uart.specs.Sound.{digit_small}
+use Rattle.uart.proofs.Digits.{byte_is_digit}
 use Rattle.uart.proofs.words.Reader.look.Goals as goal
 
 -- the bit is shifted to its place with nothing cut off
 pub returns-in-1-to-8 : goal.returns-in-1-to-8
 returns-in-1-to-8 c =
-    let r = c.args.self in
+    let r = c.args.self.state in
     let x = c.args.level in
     let low : 1 ≤ r.next = search rules in
     let high : r.next ≤ 8 = search rules in
