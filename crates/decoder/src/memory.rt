@@ -8,6 +8,7 @@ use samples::Refusal;
 #[derive(Clone, Copy, Debug, PartialEq, Eq)]
 pub struct BadMemory(pub u64);
 
+// By hand, since a derived one does not say which refusal a `?` makes.
 impl From<BadMemory> for Refusal {
     ghost from_gives = { λ bad refusal. refusal ≡ Memory bad.0 };
 

@@ -3,7 +3,7 @@ use samples::Refusal;
 use std::alloc::{AllocError, Global};
 use std::test::Fail;
 
-/// What a reader that has read nothing remembers.
+/// What a reader that has read nothing remembers, written out so that no test hangs on `fresh_memory`.
 const FRESH: [u64; 5] = [0, 1, 0, 0, 0];
 
 /// Samples with the levels of a text on line 0, and on line 9 the opposite. Only 0 and 1 are levels.

@@ -46,6 +46,7 @@ fn meaning(refusal: Refusal) -> &'static str
     }
 }
 
+// By hand, since a derived one does not say what is printed.
 impl fmt::Display for Failure {
     ghost output = { λ e. Some (message_of e) };
 

@@ -31,6 +31,7 @@ pub(crate) fn read_line(text: &[u8], line: u64, place: u64) -> Result<(Run, &[u8
     requires { 0 < length text.now }
     ensures { MatchResult result (λ p. FirstLine line place text.now (Ok p.0) p.1.now) (λ f. (after : List ℕ) × FirstLine line place text.now (Err f) after) }
 {
+    // Each refusal stands beside its test: with `ok_or` and `map_err` the three lines would be no shorter.
     let Some((sample, count, after)) = two_numbers(text, b" ") else {
         return Err(Refusal::Text(line));
     };

@@ -13,7 +13,7 @@ use std::io;
 use std::io::{AsBytes, Read, Write};
 use std::process::ExitCode;
 
-/// Writes what `make` gives for all that a reader has left.
+/// Writes what `make` gives for all that a reader has left. That it may be called is asked by each function that calls it or hands it on, as the language wants it.
 pub fn pass<R: Read, W: Write, T: AsBytes + Drop, E: Error, F: FnOnce(&[u8]) -> Result<T, E>>(
     alloc: Global,
     input: &mut R,

@@ -30,6 +30,7 @@ where
 {
     let mut out = String::new(alloc);
     let mut place = 0u128;
+    // The place is counted beside the runs: with one chain over all samples it would be counted as well.
     for run in runs {
         let end = place + u128::from(run.count);
         for at in place..end {

@@ -7,7 +7,7 @@ use Rattle.samples.specs.declared.run.Run.{Run}
 abbrev pub samples_of : List Run → List ℕ
 samples_of rs = flat_map (λ r. replicate r.count r.sample) rs
 
--- a run counts 1 to 65,535 samples
+-- a run counts 1 to 65,535 samples; by cases, and not by `All`, which speaks of indices: the proofs go along the list
 abbrev pub WellFormed : List Run → Type 0
 WellFormed [] = Unit {0}
 WellFormed (r ∷ rs) = (1 ≤ r.count) × (r.count ≤ 65535) × WellFormed rs

@@ -58,6 +58,7 @@ impl Runs {
             self.list.push(run)?;
             return Ok(());
         };
+        // By its place, since a push that fails has to leave the last run as it was.
         let at = self.list.len() - 1;
         let (last, rest) = last.join(run);
         if let Some(rest) = rest {

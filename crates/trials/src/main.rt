@@ -47,7 +47,7 @@ fn hold_any(alloc: Global, wave: &mut Wave, random: &mut Random) -> Result<Vec<W
     plain::read_whole(alloc, wave)
 }
 
-/// Reads waves of one kind in pieces; `make` makes a wave, and says which words are to be read of it.
+/// Reads waves of one kind in pieces; `make` makes a wave, and says which words are to be read of it; that it may be called has to be asked here too.
 fn try_waves<F>(rt: &HostRuntime, random: &mut Random, kind: &str, make: F) -> anyhow::Result<()>
 where
     F: Fn(Global, &mut Wave, &mut Random) -> Result<Vec<Word>, AllocError> + Drop,

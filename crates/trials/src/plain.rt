@@ -7,8 +7,8 @@ use uart::Word;
 
 /// Whether the line is high at a place of a wave; nothing past its end.
 fn is_high_at(wave: &Wave, place: usize) -> Option<bool> {
-    let line = 1u16 << (wave.setting.line % 16);
-    wave.samples.get(place).map(|sample| *sample & line != 0)
+    let mask = wave.setting.mask();
+    wave.samples.get(place).map(|sample| *sample & mask != 0)
 }
 
 /// Whether a place is low after a high one; before the first place it is high.
@@ -30,6 +30,7 @@ fn word_from(wave: &Wave, first_look: usize) -> Option<Word> {
     let bit = wave.setting.bit as usize;
     let look = |n: usize| is_high_at(wave, first_look.saturating_add(bit.saturating_mul(n)));
     let mut byte = 0u8;
+    // By the number of the look, which gives its place and the weight of its bit.
     for n in 0..8 {
         byte |= u8::from(look(n + 1)?) << n;
     }

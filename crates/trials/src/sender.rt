@@ -26,6 +26,7 @@ fn margin(random: &mut Random, bit: u32) -> u32 {
 fn send(wave: &mut Wave, random: &mut Random, byte: u8) -> Result<(), AllocError> {
     let bit = wave.setting.bit;
     let mut begin = 0u32;
+    // By the number of the level, which gives its place and which bit it is.
     for n in 0..10 {
         let look = (bit / 2).saturating_add(bit.saturating_mul(n));
         let end = look.saturating_add(margin(random, bit));

@@ -9,6 +9,13 @@ pub struct Setting {
     pub line: u32,
 }
 
+impl Setting {
+    /// The bit that the line has in a sample.
+    pub(crate) fn mask(self) -> u16 {
+        1 << (self.line % 16)
+    }
+}
+
 /// A wave on the line of a setting.
 #[derive(Drop)]
 pub struct Wave {
@@ -29,13 +36,13 @@ impl Wave {
         high: bool,
         count: u32,
     ) -> Result<(), AllocError> {
-        let line = 1u16 << (self.setting.line % 16);
+        let mask = self.setting.mask();
         for _ in 0..count {
             let garbage = random.sample();
             let sample = if high {
-                garbage | line
+                garbage | mask
             } else {
-                garbage & !line
+                garbage & !mask
             };
             self.samples.push(sample)?;
         }

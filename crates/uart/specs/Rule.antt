@@ -53,6 +53,7 @@ abbrev pub value_of : Word → ℕ
 value_of (Byte v) = v
 value_of (Broken v) = v
 
+-- each word holds a byte; by cases, since the proofs go along the list
 abbrev pub AllBytes : List Word → Type 0
 AllBytes [] = Unit {0}
 AllBytes (w ∷ ws) = (value_of w < 256) × AllBytes ws

@@ -51,12 +51,12 @@ abbrev pub calls : (bit line : ℕ) → (memory : List ℕ) → List Call → Li
 calls d k memory [] = []
 calls d k memory (c ∷ cs) = serial_after d k c.piece memory c.room ∷ calls d k (serial_after d k c.piece memory c.room).memory cs
 
--- no call is refused
+-- no call is refused; by cases, since the proofs go along the list
 abbrev pub AllRead : List After → Type 0
 AllRead [] = Unit {0}
 AllRead (a ∷ rest) = ((n : ℕ) × (a.answer ≡ Ok n)) × AllRead rest
 
--- no piece is too long, and each room holds a word for each sample
+-- no piece is too long, and each room holds a word for each sample; by cases too
 abbrev pub AllAmple : List Call → Type 0
 AllAmple [] = Unit {0}
 AllAmple (c ∷ cs) = (length c.piece ≤ 65535) × (length c.piece * 2 ≤ length c.room) × AllAmple cs

@@ -50,6 +50,7 @@ pub record Fair (bit : ℕ) (b : Sent) : Type 0 where
   pub after : (n : ℕ) → n < 10 → begin b.lengths n ≤ look_place bit n
   pub before : (n : ℕ) → n < 10 → look_place bit n < begin b.lengths n + slice_index b.lengths n
 
+-- each byte has fair lengths; by cases, since the proofs go along the list
 abbrev pub AllFair : (bit : ℕ) → List Sent → Type 0
 AllFair d [] = Unit {0}
 AllFair d (b ∷ bs) = Fair d b × AllFair d bs

@@ -14,7 +14,7 @@ pub fn fresh_memory() -> [u64; 5]
     [0, 1, 0, 0, 0]
 }
 
-/// Reads a line on from a memory, where so many samples are a bit.
+/// Reads a line on from a memory, where so many samples are a bit. The settings are two numbers, and no struct, as C calls with them.
 ///
 /// The memory is five numbers: whether a byte is under way, the level before, how many samples to wait, which look comes next, and the bits so far.
 /// The first call begins with `fresh_memory`, and each other goes on from what the one before left. A word takes two numbers of the room: 0, or 1 where it is broken, and the byte.

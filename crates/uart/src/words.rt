@@ -14,6 +14,7 @@ pub enum Word {
     Broken(u8),
 }
 
+// By hand, since a derived one does not say what is printed.
 impl fmt::Display for Word {
     ghost output = { λ w. Some (word_text w) };
 
