@@ -18,10 +18,10 @@ fn walk<D: Decoder>(start: D, samples: &[u16], room: &mut [u64]) -> (D, usize)
     for sample in samples {
         let (next, output) = reader.feed(*sample);
         reader = next;
-        if let Some(word) = output {
+        if let Some(output) = output {
             // The place follows from the count: of a room that `chunks_exact_mut` has lent nothing is known afterwards.
             if fits(many + 1, D::WIDTH, room.len()) {
-                D::encode(word, &mut room[many * D::WIDTH..]);
+                D::encode(output, &mut room[many * D::WIDTH..]);
             }
             many += 1;
         }

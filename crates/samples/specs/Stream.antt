@@ -18,6 +18,11 @@ abbrev pub Extends : {E : Type 0} → Result (Unit {0}) E → (before : Kept) �
 Extends (Ok u) before piece after = after.samples ≡ before.samples ++ piece
 Extends (Err e) before piece after = (after.samples ≡ before.samples) × (before.capacity < length (rolled (before.samples ++ piece)))
 
+-- of a stream that went on with a piece, by `Extends`, the runs are those that it had, extended with the piece
+abbrev pub RunsAreExtended : Type 0
+RunsAreExtended =
+    (before after : Kept) (piece : List ℕ) → Extends {E = Unit {0}} (Ok tt) before piece after → rolled after.samples ≡ extended (rolled before.samples) piece
+
 -- the runs of a stream after all its pieces
 abbrev pub handed_over : List Run → List (List ℕ) → List Run
 handed_over rs pieces = fold extended rs pieces

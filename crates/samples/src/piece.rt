@@ -1,6 +1,5 @@
 //! A piece of samples, rolled up into a lent room.
 ghost use Rattle.std.specs.Prelude.{◌≡◌, ◌*◌, ◌<◌, ◌≤◌, [], ◌∷◌, length, MatchResult};
-ghost use Rattle.samples.specs.declared.refusal.Refusal.TheVariants.{Samples as TooMany};
 ghost use Rattle.samples.specs.Roll.{numbers, filled, Rolls};
 ghost use Rattle.samples.specs.Runs.{rolled};
 
@@ -9,7 +8,7 @@ use crate::run::{MOST_SAMPLES, Run, RunsOf};
 
 /// Refuses more samples than one piece has.
 pub fn check_piece(samples: &[u16]) -> Result<(), Refusal>
-    ensures { MatchResult result (λ _. length samples.now ≤ 65535) (λ f. (f ≡ TooMany 65535) × (65535 < length samples.now)) }
+    ensures { MatchResult result (λ _. length samples.now ≤ 65535) (λ f. (f ≡ Refusal.Samples 65535) × (65535 < length samples.now)) }
 {
     if samples.len() > MOST_SAMPLES {
         return Err(Refusal::Samples(MOST_SAMPLES as u64));

@@ -6,6 +6,10 @@ use Rattle.uart.specs.Decoder.{step, saved, restored}
 use Rattle.uart.specs.Memory.{opened, restored-saved}
 use Rattle.uart.specs.Sound.{step_sound}
 
+-- what a reader remembers, and its settings
+abbrev pub state_of : Reader → State
+state_of r = r.state
+
 -- after a sample
 pub steps_on : (r : Reader) (x : ℕ) → (q : Reader) × (q.state ≡ step r.state x)
 steps_on r x = (record { state = step r.state x; sound = step_sound r.state x r.sound }, refl)

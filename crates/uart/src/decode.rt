@@ -2,7 +2,7 @@
 ghost use Rattle.std.specs.Prelude.{◌≡◌, ◌<◌, MatchOption, MatchResult};
 ghost use Rattle.uart.specs.Decoder.{digit, idle, under_way, looked, word_at, on_level, read_at, step, emit, encoded, saved, restored, fresh, setting_at_fault};
 ghost use Rattle.uart.specs.Memory.{length-encoded, restored-step};
-ghost use Rattle.uart.specs.Readers.{steps_on, reopened, comes_back};
+ghost use Rattle.uart.specs.Readers.{state_of, steps_on, reopened, comes_back};
 
 use crate::words::{Reader, State, Word};
 use decoder::{BadMemory, Decoder, Machine};
@@ -52,7 +52,7 @@ impl State {
 impl Reader {
     /// A reader that has read nothing yet, with the level before taken as high; `bit` samples are a bit.
     pub fn new(bit: u64, line: u64) -> Result<Reader, Refusal>
-        ensures { MatchResult result (λ reader. (setting_at_fault bit line ≡ None) × (reader.state ≡ fresh bit line)) (λ f. setting_at_fault bit line ≡ Some f) }
+        ensures { MatchResult result (λ reader. (setting_at_fault bit line ≡ None) × (state_of reader ≡ fresh bit line)) (λ f. setting_at_fault bit line ≡ Some f) }
     {
         // Each number has a type, a range and a refusal of its own: one function for them would take as much.
         let bit = u32::try_from(bit)
@@ -123,7 +123,7 @@ impl Machine for Reader {
 
     type State = State;
 
-    ghost state = { λ r. r.state };
+    ghost state = { state_of };
 
     ghost step = { step };
 

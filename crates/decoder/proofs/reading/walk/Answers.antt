@@ -22,10 +22,10 @@ loop-sample-preserved g c =
             | then-fits v ↦
                 let at = ap (λ n. l.many * n) v.WIDTH-then-fits.ensures in
                 rw (w.many-is, w.room-is, v.room-is)
-                (walked_written m.step m.emit d.encoded d.WIDTH start xs lent s t l.sample-index l.many l.room o c.loop-sample-test.true e.next e.output l.invariant sized w.in-Some.word w.in-Some.is _ _ at v.encode.ensures)
+                (walked_written m.step m.emit d.encoded d.WIDTH start xs lent s t l.sample-index l.many l.room o c.loop-sample-test.true e.next e.output l.invariant sized w.in-Some.output w.in-Some.is _ _ at v.encode.ensures)
             | else-fits v ↦
                 rw (w.many-is, w.room-is, v.room-is)
-                (walked_past m.step m.emit d.encoded d.WIDTH start xs lent s t l.sample-index l.many l.room o c.loop-sample-test.true e.next e.output l.invariant sized w.in-Some.word w.in-Some.is l.auto.room w.WIDTH.result w.WIDTH.ensures w.fits.result w.fits.ensures v.if-fits.false)
+                (walked_past m.step m.emit d.encoded d.WIDTH start xs lent s t l.sample-index l.many l.room o c.loop-sample-test.true e.next e.output l.invariant sized w.in-Some.output w.in-Some.is l.auto.room w.WIDTH.result w.WIDTH.ensures w.fits.result w.fits.ensures v.if-fits.false)
           ]
       | in_default w ↦
           rw (w.many-is, w.room-is)
