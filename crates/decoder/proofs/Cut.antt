@@ -56,7 +56,7 @@ module _ {S X O : Type 0} (step : S → X → S) (emit : S → X → Option O) w
   before-few None os = omega arith
   before-few (Some o) os = omega arith
 
-  outputs-few : (s : S) (xs : List X) → length (outputs step emit s xs) ≤ length xs
+  pub outputs-few : (s : S) (xs : List X) → length (outputs step emit s xs) ≤ length xs
   outputs-few s [] = omega arith
   outputs-few s (x ∷ xs) =
       let on = outputs-few (step s x) xs in

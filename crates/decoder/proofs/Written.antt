@@ -16,7 +16,7 @@ pub record Filling (start all left room : List ℕ) (at : ℕ) : Type 0 where
   pub long : at ≡ length written
   pub filling : room ≡ filled written start
 
-filling_more :
+pub filling_more :
     (start all left room free ns more : List ℕ) (at : ℕ) → length all ≤ length start → left ≡ ns ++ more → Filling start all left room at →
     free ≡ filled ns (take (length room - at) (drop at room)) → Filling start all more (put_mid at (length room - at) room free) (at + length ns)
 filling_more start all left room free ns more at fits e f wrote =
@@ -30,7 +30,7 @@ filling_more start all left room free ns more at fits e f wrote =
       filling = lent_on start room free f.written ns at f.long (omega (arith, f.long, both, size, fits)) f.filling wrote;
     }
 
-filling_all : (start all left room : List ℕ) (at : ℕ) → left ≡ [] → Filling start all left room at → room ≡ filled all start
+pub filling_all : (start all left room : List ℕ) (at : ℕ) → left ≡ [] → Filling start all left room at → room ≡ filled all start
 filling_all start all left room at none f = f.filling ∙ ap (λ ns. filled ns start) (sym (f.parts ∙ ap (λ l. f.written ++ l) none ∙ append-nil f.written))
 
 module _ {S O : Type 0} (step : S → ℕ → S) (emit : S → ℕ → Option O) (encoded : O → List ℕ) (width : ℕ) (start : S) (xs lent : List ℕ) where

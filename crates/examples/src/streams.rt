@@ -1,4 +1,6 @@
 //! Streams of samples that are handed over in pieces.
+ghost use Rattle.std.specs.Prelude.{IsOk};
+
 use crate::random::Random;
 use samples::{Refusal, Run, Runs, roll};
 use std::alloc::{AllocError, Global};
@@ -56,6 +58,31 @@ fn equal_neighbours_are_joined(rt: HostRuntime) -> Result<(), Fail> {
         count: 1,
     };
     assert!(rt; runs.as_slice() == &[sevens, full, full, rest, last][..]);
+    Ok(())
+}
+
+/// Takes a run of no samples. It cannot fail, as a caller knows: there is capacity for the runs that there are.
+fn push_none(runs: &mut Runs) -> Result<(), AllocError>
+    ensures { IsOk result }
+{
+    runs.push(Run {
+        sample: 9,
+        count: 0,
+    })
+}
+
+#[test]
+fn a_run_of_no_samples_changes_nothing(rt: HostRuntime) -> Result<(), Fail> {
+    let mut runs = Runs::new(rt.alloc());
+    push_none(&mut runs)?;
+    assert!(rt; runs.as_slice().is_empty());
+    let run = Run {
+        sample: 7,
+        count: 3,
+    };
+    runs.push(run)?;
+    push_none(&mut runs)?;
+    assert!(rt; runs.as_slice() == &[run][..]);
     Ok(())
 }
 

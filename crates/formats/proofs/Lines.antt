@@ -1,5 +1,5 @@
 -- The first line of a text is two numbers, as they are found from the front, or it is refused. Assumes nothing.
-use Rattle.std.proofs.Common.{◌≡◌, ℕ, ◌<◌, min, List, [], ◌∷◌, ◌++◌, length, drop, codes, Some, None, Err, eqb, Option, Result, sym, refl, ap, ◌∙◌, subst, ⊎_elim, append_assoc, append-nil, arith}
+use Rattle.std.proofs.Common.{◌≡◌, ℕ, ◌+◌, ◌<◌, min, List, [], ◌∷◌, ◌++◌, length, drop, codes, Some, None, Err, eqb, Option, Result, sym, refl, ap, ◌∙◌, subst, ⊎_elim, append_assoc, append-nil, arith}
 use Rattle.std.specs.Str.Iter.{LacksByte}
 use Rattle.std.specs.Str.Parse.{digits_value, AllDigits}
 use Rattle.std.specs.Int.{IsInRange}
@@ -29,23 +29,27 @@ one_rest [] (c ∷ es) a b hd he na nb e = absurd (subst NoDigit e na (digit_fro
 one_rest (d ∷ ds) [] a b hd he na nb e = absurd (subst NoDigit (sym e) nb (digit_from_value d hd.0))
 one_rest (d ∷ ds) (c ∷ es) a b hd he na nb e = one_rest ds es a b hd.1 he.1 na nb (ap (drop 1) e)
 
-no_front : {text rest : List ℕ} {n : ℕ} → NoDigit text → FrontTo 1000000 text n rest → ⊥
+pub no_front : {exact : ℕ} {text rest : List ℕ} {n : ℕ} → NoDigit text → FrontTo exact text n rest → ⊥
 no_front {rest = rest} out f = no_digits f.digits rest f.some f.all (subst NoDigit f.cut out)
+
+-- the digits of a number that is exact as far as is asked end there
+abbrev pub ReadTo : (exact : ℕ) (text : List ℕ) (n : ℕ) (rest : List ℕ) → Type 0
+ReadTo exact text n rest = FrontTo exact text n rest × NoDigit rest
 
 -- what `read_number` promises of a number that it read
 abbrev pub Read : (text : List ℕ) (n : ℕ) (rest : List ℕ) → Type 0
-Read text n rest = FrontTo 1000000 text n rest × NoDigit rest
+Read text n rest = ReadTo 1000000 text n rest
 
 -- what follows the digits is the same for each reader, and the number too, as far as it is read exactly
-same_rest : {text a b : List ℕ} {n m : ℕ} → Read text n a → Read text m b → a ≡ b
+pub same_rest : {exact : ℕ} {text a b : List ℕ} {n m : ℕ} → ReadTo exact text n a → ReadTo exact text m b → a ≡ b
 same_rest {a = a} {b = b} f g = one_rest f.0.digits g.0.digits a b f.0.all g.0.all f.1 g.1 (sym f.0.cut ∙ g.0.cut)
 
-same_number : {text a b : List ℕ} {n m : ℕ} → Read text n a → Read text m b → min n 1000001 ≡ min m 1000001
-same_number {b = b} f g =
+pub same_number : {exact : ℕ} {text a b : List ℕ} {n m : ℕ} → ReadTo exact text n a → ReadTo exact text m b → min n (exact + 1) ≡ min m (exact + 1)
+same_number {exact = exact} {b = b} f g =
     let ds = append_cancel_right f.0.digits g.0.digits b (ap (λ l. f.0.digits ++ l) (sym (same_rest f g)) ∙ sym f.0.cut ∙ g.0.cut) in
-    f.0.same ∙ ap (λ l. min (digits_value 10 l) 1000001) ds ∙ sym g.0.same
+    f.0.same ∙ ap (λ l. min (digits_value 10 l) (exact + 1)) ds ∙ sym g.0.same
 
-ends_no_digit : (end after : List ℕ) → Ends end after → NoDigit end
+pub ends_no_digit : (end after : List ℕ) → Ends end after → NoDigit end
 ends_no_digit [] after e = tt
 ends_no_digit (b ∷ end) after e = λ h. omega (arith, e.0)
 

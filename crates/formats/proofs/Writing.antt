@@ -1,5 +1,5 @@
 -- The lines of runs, one after the other. Assumes nothing.
-use Rattle.std.proofs.Common.{◌≡◌, ℕ, ◌+◌, ◌<◌, List, [], ◌∷◌, ◌++◌, length, get_or, take, decimal, ap, ◌∙◌, append-nil, append_assoc}
+use Rattle.std.proofs.Common.{◌≡◌, ℕ, ◌+◌, ◌<◌, List, [], ◌∷◌, ◌++◌, length, get_or, take, ap, ◌∙◌, append-nil}
 use Rattle.std.proofs.lemmas.List.{take_more}
 use Rattle.std.proofs.lemmas.List.Concat.{flat_map-append}
 use Rattle.samples.specs.declared.run.Run.{Run}
@@ -10,9 +10,3 @@ pub text_more : (rs : List Run) (i : ℕ) (d : Run) → i < length rs → text_o
 text_more rs i d h =
     ap text_of (take_more rs i d h) ∙ flat_map-append (λ r. line_of r ++ (10 ∷ [])) (take i rs) (get_or rs i d ∷ [])
     ∙ ap (λ l. text_of (take i rs) ++ l) (append-nil (line_of (get_or rs i d) ++ (10 ∷ [])))
-
--- as it is written, piece by piece
-pub line_written :
-    (r : Run) (out a b c is sample space count newline : List ℕ) → a ≡ out ++ sample → b ≡ a ++ space → c ≡ b ++ count → is ≡ c ++ newline →
-    sample ≡ decimal r.sample → space ≡ 32 ∷ [] → count ≡ decimal r.count → newline ≡ 10 ∷ [] → is ≡ out ++ (line_of r ++ (10 ∷ []))
-line_written r out a b c is sample space count newline ea eb ec e s sp k nl = rw (e, ec, eb, ea, s, sp, k, nl) (simp append_assoc)

@@ -1,5 +1,5 @@
 -- Runs go on from their last one. Assumes nothing.
-use Rattle.std.proofs.Common.{◌≡◌, ℕ, ◌+◌, ◌-◌, ◌<◌, ◌≤◌, true, false, cond, List, [], ◌∷◌, ◌++◌, length, get_or, take, set, replicate, Some, None, Option, Bor, MatchOption, sym, refl, ap, ◌∙◌, subst, ⊎_elim, arith, length-append, length-set}
+use Rattle.std.proofs.Common.{◌≡◌, ℕ, ◌+◌, ◌-◌, ◌<◌, ◌≤◌, Bool, true, false, cond, List, [], ◌∷◌, ◌++◌, length, get_or, take, set, replicate, Some, None, Option, Bor, MatchOption, sym, refl, ap, ◌∙◌, subst, ⊎_elim, arith, length-append, length-set}
 use Rattle.std.specs.Option.{option_map}
 use Rattle.std.specs.Slice.{IsGetResult}
 use Rattle.std.proofs.lemmas.List.{append-nil, append_assoc, take_all, take_more, length-take-le, get_or_default, set_at, same_from_push}
@@ -45,7 +45,7 @@ rolled-again rs ss e = ap (λ qs. rolled (samples_of qs)) e ∙ ap rolled (rolle
 abbrev pub Last : List Run → Option Run → Type 0
 Last rs o = MatchOption o (length rs ≡ 0) (λ l. (0 < length rs) × (l ≡ get_or rs (length rs - 1) l))
 
-last_is : (rs : List Run) (r : Option (Bor Run)) → IsGetResult rs 0 (length rs - 1) r → Last rs (option_map (λ x. x.now) r)
+pub last_is : (rs : List Run) (r : Option (Bor Run)) → IsGetResult rs 0 (length rs - 1) r → Last rs (option_map (λ x. x.now) r)
 last_is rs None h = omega (arith, h.3)
 last_is rs (Some x) h = (h.3.0, h.1)
 
@@ -73,6 +73,13 @@ last_replaced rs more extra n l a ys packed long last grows joined =
 pub first_pushed : (rs after : List Run) (x n : ℕ) → Last rs None → 1 ≤ n → n ≤ 65535 → after ≡ rs ++ (run x n ∷ []) → after ≡ rolled (samples_of rs ++ replicate n x)
 first_pushed [] after x n none l h e = e ∙ sym (ap rolled (sym (append-nil (replicate n x))) ∙ begun x n [] l h tt)
 first_pushed (r ∷ rs) after x n none l h e = absurd (omega arith)
+
+-- a first run, if memory was found for it
+pub first_or_none :
+    (b : Bool) (rs after : List Run) (x n : ℕ) → Last rs None → 1 ≤ n → n ≤ 65535 → after ≡ cond b (rs ++ (run x n ∷ [])) rs → rolled (samples_of rs) ≡ rs →
+    rolled (samples_of after) ≡ after
+first_or_none true rs after x n none l h e packed = rolled-again after (samples_of rs ++ replicate n x) (first_pushed rs after x n none l h e)
+first_or_none false rs after x n none l h e packed = rolled-again after (samples_of rs) (e ∙ sym packed)
 
 -- MORE RUNS
 

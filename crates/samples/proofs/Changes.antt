@@ -10,7 +10,7 @@ abbrev pub change : ℕ × ℕ → ℕ
 change p = cond (eqb p.1 p.0) 0 1
 
 -- how often samples change, after x
-abbrev changes : ℕ → List ℕ → ℕ
+abbrev pub changes : ℕ → List ℕ → ℕ
 changes x ys = sum_by change (zip (x ∷ ys) ys)
 
 change_small : (p : ℕ × ℕ) → change p ≤ 1

@@ -18,7 +18,7 @@ cut_parted front ms l h =
     let at : length qs - 1 ≡ length front = omega (arith, long) in
     ap (λ i. set qs i l) at ∙ before_last front ms l h
 
-cut_back : (rs : List Run) (o : Option Run) (ys : List ℕ) → rolled (samples_of rs) ≡ rs → Last rs o → cut_to (length rs) o (rolled (samples_of rs ++ ys)) ≡ rs
+pub cut_back : (rs : List Run) (o : Option Run) (ys : List ℕ) → rolled (samples_of rs) ≡ rs → Last rs o → cut_to (length rs) o (rolled (samples_of rs ++ ys)) ≡ rs
 cut_back rs None ys packed none = ap (λ n. take n (rolled (samples_of rs ++ ys))) none ∙ sym (nil_from_length rs none)
 cut_back rs (Some l) ys packed last =
     let front = take (length rs - 1) rs in

@@ -1,3 +1,4 @@
+pub mod Enough
 pub mod Internal
 pub mod Line
 pub mod Refusal

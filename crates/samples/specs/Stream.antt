@@ -1,13 +1,15 @@
 -- A stream of samples that is handed over piece by piece. Assumes nothing: these are definitions.
-use Rattle.std.specs.Prelude.{◌≡◌, ℕ, ◌<◌, List, [], ◌++◌, length, Ok, Err, Result}
+use Rattle.std.specs.Prelude.{◌≡◌, ℕ, ◌^◌, ◌<◌, ◌≤◌, List, [], ◌++◌, length, Ok, Err, Result}
 use Rattle.std.specs.List.{flat_map, fold}
 use Rattle.samples.specs.declared.run.Run.{Run}
 use Rattle.samples.specs.Runs.{samples_of, rolled, Minimal}
 
--- what is kept of a stream: its samples, as runs, and how many runs there is capacity for
+-- what is kept of a stream: its samples, as runs, and how many runs there is capacity for, which are never fewer than there are
 pub record Kept : Type 0 where
   pub samples : List ℕ
   pub capacity : ℕ
+  pub enough : length (rolled samples) ≤ capacity
+  pub bound : capacity < 2 ^ 63
 
 -- the runs of a stream that goes on with a piece
 abbrev pub extended : List Run → List ℕ → List Run
@@ -18,10 +20,11 @@ abbrev pub Extends : {E : Type 0} → Result (Unit {0}) E → (before : Kept) �
 Extends (Ok u) before piece after = after.samples ≡ before.samples ++ piece
 Extends (Err e) before piece after = (after.samples ≡ before.samples) × (before.capacity < length (rolled (before.samples ++ piece)))
 
--- of a stream that went on with a piece, by `Extends`, the runs are those that it had, extended with the piece
+-- of a stream that went on with a piece, by its samples or by `Extends`, the runs are those that it had, extended with the piece
 abbrev pub RunsAreExtended : Type 0
 RunsAreExtended =
-    (before after : Kept) (piece : List ℕ) → Extends {E = Unit {0}} (Ok tt) before piece after → rolled after.samples ≡ extended (rolled before.samples) piece
+    ((before after piece : List ℕ) → after ≡ before ++ piece → rolled after ≡ extended (rolled before) piece)
+    × ((before after : Kept) (piece : List ℕ) → Extends {E = Unit {0}} (Ok tt) before piece after → rolled after.samples ≡ extended (rolled before.samples) piece)
 
 -- the runs of a stream after all its pieces
 abbrev pub handed_over : List Run → List (List ℕ) → List Run

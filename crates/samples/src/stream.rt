@@ -12,19 +12,19 @@ use std::marker::Model;
 #[derive(Drop)]
 pub struct Runs {
     list: Vec<Run>,
+    ghost packed: { rolled (samples_of list.items) ≡ list.items },
 }
 
 // The runs of a stream follow from its samples, and so contracts see the samples.
 impl Model for Runs {
-    ghost use Rattle.std.specs.Prelude.{◌≡◌, vec_capacity};
-    ghost use Rattle.samples.specs.Runs.{samples_of, rolled};
+    ghost use Rattle.std.specs.Prelude.{vec_capacity};
+    ghost use Rattle.samples.specs.Runs.{samples_of};
     ghost use Rattle.samples.specs.Stream.{Kept};
+    ghost use Rattle.samples.specs.Enough.{enough};
 
     ghost Value = { Kept };
 
-    ghost view = { λ a. record { samples = samples_of a.list.items; capacity = vec_capacity a.list } };
-
-    ghost invariant = { λ a. rolled (samples_of a.list.items) ≡ a.list.items };
+    ghost view = { λ a. record { samples = samples_of a.list.items; capacity = vec_capacity a.list; enough = enough a.list a.packed; bound = a.list.small } };
 }
 
 impl Runs {

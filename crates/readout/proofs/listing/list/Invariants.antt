@@ -4,11 +4,11 @@ use Rattle.readout.specs.Listing.{shown}
 use Rattle.readout.proofs.Lines.{Lists}
 use Rattle.readout.proofs.listing.list.Given as goal
 
-abbrev pub invariant-loop-at : goal.invariant-loop-at
-invariant-loop-at g l =
+abbrev pub invariant-loop-i : goal.invariant-loop-i
+invariant-loop-i g l =
     let m = g.D.Machine in
-    Lists m.step m.emit (shown g.D.Output.Display.output) (m.state l.fn.reader) (samples_of l.runs) (m.state l.reader) l.at
-    (replicate (l.end - l.at) l.run.sample ++ samples_of (drop (l.run-index + 1) l.runs)) (string_bytes l.out)
+    Lists m.step m.emit (shown g.D.Output.Display.output) (m.state l.fn.reader) (samples_of l.runs) (m.state l.reader) (l.place + l.i)
+    (replicate (l.count - l.i) l.sample ++ samples_of (drop (l.run-index + 1) l.runs)) (string_bytes l.out)
 
 abbrev pub invariant-loop-run : goal.invariant-loop-run
 invariant-loop-run g l =

@@ -7,6 +7,6 @@ pub returns : goal.returns
 returns c =
     let value = c.as_slice.ensures.value in
     record {
-      value = value ∙ sym c.self.invariant ∙ ap (λ k. rolled k.samples) c.self.view_is;
-      minimal = subst (λ rs. Minimal (samples_of rs) rs) (sym value) (packed_minimal c.self.inside.list.items c.self.invariant);
+      value = value ∙ sym c.self.inside.packed ∙ ap (λ k. rolled k.samples) c.self.view_is;
+      minimal = subst (λ rs. Minimal (samples_of rs) rs) (sym value) (packed_minimal c.self.inside.list.items c.self.inside.packed);
     }

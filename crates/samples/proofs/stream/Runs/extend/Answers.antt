@@ -16,14 +16,16 @@ unchanged c =
     let ys = samples_of c.loop-run.yielded in
     let last = last_found rs c.deref.result.now c.last.result c.copied-last.result c.deref.ensures.value c.last.ensures.item c.copied-last.ensures in
     let now =
-    sym c.self-in-loop-run.invariant
+    sym c.self-in-loop-run.inside.packed
     ∙ ap rolled
     (ap (λ k. k.samples) c.self-in-loop-run.view_is ∙ c.in-Err.ensures.extends.0 ∙ c.loop-run.invariant.0 ∙ ap (λ k. k.samples ++ ys) (sym c.self.view_is)) in
-    restored rs _ _ c.copied-last.result c.len-runs.result ys c.self.invariant last (c.len-runs.ensures ∙ c.self.inside.list.ok.0) now c.cut_back.ensures
+    restored rs _ _ c.copied-last.result c.len-runs.result ys c.self.inside.packed last (c.len-runs.ensures ∙ c.self.inside.list.ok.0) now c.cut_back.ensures
 
-pub invariant_of-self : goal.invariant_of-self
-invariant_of-self c =
-    rolled-again c.cut_back.new.list.items (samples_of c.self.inside.list.items) (unchanged (goal.at.invariant_of-self c).After-cut_back ∙ sym c.self.invariant)
+pub invariant_of-self-inside : goal.invariant_of-self-inside
+invariant_of-self-inside c = (
+  rolled-again c.cut_back.new.list.items (samples_of c.self.inside.list.items) (unchanged (goal.at.invariant_of-self-inside c).After-cut_back ∙ sym c.self.inside.packed),
+  tt,
+)
 
 pub returns-in-Err : goal.returns-in-Err
 returns-in-Err c =
