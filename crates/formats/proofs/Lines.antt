@@ -32,7 +32,7 @@ one_rest (d ∷ ds) (c ∷ es) a b hd he na nb e = one_rest ds es a b hd.1 he.1 
 pub no_front : {exact : ℕ} {text rest : List ℕ} {n : ℕ} → NoDigit text → FrontTo exact text n rest → ⊥
 no_front {rest = rest} out f = no_digits f.digits rest f.some f.all (subst NoDigit f.cut out)
 
--- the digits of a number that is exact as far as is asked end there
+-- a number is at the front of a text, exact as far as is asked, and no digit follows it
 abbrev pub ReadTo : (exact : ℕ) (text : List ℕ) (n : ℕ) (rest : List ℕ) → Type 0
 ReadTo exact text n rest = FrontTo exact text n rest × NoDigit rest
 

@@ -15,7 +15,7 @@ pub struct Runs {
     ghost packed: { rolled (samples_of list.items) ≡ list.items },
 }
 
-// The runs of a stream follow from its samples, and so contracts see the samples.
+// The runs of a stream follow from its samples, and so contracts see the samples. That these are packed is a field, and no invariant here: the view takes from it that there is capacity for the runs.
 impl Model for Runs {
     ghost use Rattle.std.specs.Prelude.{vec_capacity};
     ghost use Rattle.samples.specs.Runs.{samples_of};
